@@ -80,6 +80,7 @@ check empty '"$rss" run a <&- >&- 2>&-' 2 "" empty
 check none '"$rss" run a <commit >&-' 4 "" none
 check none '"$rss" run a <&-' 4 "" none
 check none '"$rss" run a <&- >&- 2>&-' 4 "" none
+check none '"$rss" trial a 1 1 <&-' 4 "" none
 check none '"$rss" gen 1 1 >&-' 3 "" none
 check none '"$rss" gen 1 1 <&-' 0 "$(<"$top/crates/rss_examples/data/generated")" none
 check none '"$rss" format a 64 8 >&-' 3 "" new
@@ -234,13 +235,13 @@ finish
 report "the reader of the replies goes after a commit" "$faults$(faults_of "$first_status" 3 "" one)"
 
 # Words that are no command, and none.
-for words in "" run "format a 64" "gen 1 0"; do
+for words in "" run "format a 64" "gen 1 0" "trial a 1"; do
     status=0
     # shellcheck disable=SC2086
     "$rss" $words >replies 2>errors || status=$?
     faults=""
     if [ "$status" != 1 ]; then faults=" status $status;"; fi
-    if ! grep -qx 'usage: rss format FILE N G | run FILE | gen NUMBER COUNT' errors; then faults+=" no usage line;"; fi
+    if ! grep -qx 'usage: rss format FILE N G | run FILE | gen NUMBER COUNT | trial FILE NUMBER COUNT' errors; then faults+=" no usage line;"; fi
     report "rss $words" "$faults"
 done
 

@@ -1,19 +1,21 @@
 #!/usr/bin/env bash
 # How fast the engine's calls are in-process, beside LMDB, Berkeley DB and SQLite's C API as libraries.
 #
-# usage: peers.sh PEERS [COMMITS TUPLES BATCH [RUNS [IMAGES]]]
-# PEERS is a program that does the same work with the others: PEERS FOLDER COMMITS TUPLES BATCH, a line
-# each of a name and how many commits, inserts and fetches a second; and PEERS FOLDER ORDER IMAGES BATCH,
-# where ORDER is rising or scattered: over IMAGES tuples with an index, how many inserts, look-ups by key
-# and tuples of a scan a second.
+# usage: peers.sh [COMMITS TUPLES BATCH [RUNS [IMAGES]]]
+# It builds peers.c, which needs the headers and libraries of the three, and runs it in turn with
+# crates/rss_speed. The first table is of COMMITS commits of one insert, inserts up to TUPLES tuples in
+# transactions of BATCH, and fetches; the second of IMAGES tuples with an index, put in a rising and in a
+# scattered order: inserts, look-ups by key, and a scan.
 set -euo pipefail
 
-peers="$(realpath "$1")" commits="${2:-200}" tuples="${3:-200000}" batch="${4:-8000}" runs="${5:-5}" images="${6:-100000}"
+commits="${1:-200}" tuples="${2:-200000}" batch="${3:-8000}" runs="${4:-5}" images="${5:-100000}"
 top="$(cd "$(dirname "$0")/.." && pwd)"
 (cd "$top/crates/rss_speed" && rt run -- >/dev/null 2>&1) || true
 speed="$top/crates/rss_speed/out/rss_speed"
 folder="$(mktemp -d)"
 trap 'rm -rf "$folder"' EXIT
+peers="$folder/program"
+cc -O2 -o "$peers" "$top/examples/peers.c" -llmdb -ldb -lsqlite3
 
 # Each engine's work, run by run: a line each of a name and three rates.
 measure() {

@@ -5,7 +5,8 @@ use Rattle.std.proofs.lemmas.Bool.{cases_eq, true_from_ne_false}
 use Rattle.std.proofs.lemmas.Option.{same_Some}
 use Rattle.rss_base.specs.DiskRule.{IsTold}
 use Rattle.rss_base.specs.Paged.{Mapped, page_key, mapped_in, mapped_of}
-use Rattle.rss_base.specs.Steps.{PagesStep}
+use Rattle.rss_base.specs.Steps.{PagesStep, Keys}
+use Rattle.rss_base.specs.TupleTypes.{tuple_bytes}
 use Rattle.rss_base.specs.Listings.{Listing, numbered, segment_at, relation_at}
 use Rattle.rss_base.specs.declared.name.Name.{Name}
 use Rattle.rss_base.specs.declared.tid.Tid.{Tid}
@@ -26,40 +27,53 @@ use Rattle.rss_model.specs.Items.{Content, Values}
 use Rattle.rss_model.specs.Tables.{Contents, Tables, content, put, tuple_count, is_tuple_of}
 use Rattle.rss_model.specs.Changes.{Change}
 use Rattle.rss_model.specs.Meter.{Overfills, MayLead, held_size}
-use Rattle.rss_model.specs.Store.{SpellsTables, AreCounts, IsStorePage, plain_body as body_of}
+use Rattle.rss_model.specs.Store.{SpellsTables, SpellsContents, AreCounts, IsStorePage, prefix_of}
 use Rattle.rss_model.proofs.Codes.{name_total, name_apart}
 use Rattle.rss_model.proofs.Contents.{tied, not_tied}
 use Rattle.rss_model.proofs.Counts.{one_if, counts_same, counts_put}
 use Rattle.rss_model.proofs.Listed.{listed, stands_within}
-use Rattle.rss_model.proofs.PlainStores.{spelled_contents, contents_spelled, no_links_defined, PlainContents}
-use Rattle.rss_access.specs.Changes.{IsTupleRecord, number_told, tid_told, body_before, body_after, count_after, reversed, turned, AccessView, HasRoom, CanApply, Applies, Undoes, NoneUndoes, Alters, Makes, Misfits, pages_of_relation, pages_told, applied, CanAlter, HasTables}
+use Rattle.rss_model.proofs.Prefixes.{size_is}
+use Rattle.rss_access.specs.Told.{IsTupleRecord, number_told, tid_told, values_before, values_after, body_before, body_after, count_after, reversed, turned}
+use Rattle.rss_access.specs.Changes.{AccessView, HasRoomFor, CanApply, Applies, Undoes, NoneUndoes, AltersTuple, Alters, Makes, Misfits, pages_of_relation, pages_told, applied, CanAlter, HasTables}
 use Rattle.rss_access.specs.Tuples.{body_at, size_of_body, SetsBody}
 use Rattle.rss_access.specs.Written.{content_of}
 use Rattle.rss_access.proofs.Counting.{overflows_one}
 use Rattle.rss_access.proofs.Numbered.{names_apart, counted_or_old}
 use Rattle.rss_access.proofs.Recounting.{Recounts, recounts_itself, contents_changed}
 use Rattle.rss_access.proofs.Rerooting.{recounts_by, defines_still}
-use Rattle.rss_access.proofs.Telling.{some_body, no_body, count_of_some, count_of_none, Reads, reads, shows_move, can_turned, none_applies, reversed_tuple, same_number, can_become}
+use Rattle.rss_access.proofs.ChainTables.{chain_applies, chain_applies_off, chain_leads}
+use Rattle.rss_access.proofs.Prefixed.{members_by, spelled_with, bodies_told, prefix_told}
+use Rattle.rss_access.proofs.Telling.{some_body, no_body, count_of_some, count_of_none, Reads, reads, shows_move, can_turned, none_applies, reversed_room, can_become}
 use Rattle.rss_access.proofs.TupleChanges.{range-le}
-use Rattle.rss_access.proofs.Weighing.{values_size, bytes_less}
+use Rattle.rss_access.proofs.Weighing.{bytes_less}
 
 -- ---- how many tuples there are
 
 -- by what the tuple was and becomes
-count_by_bodies : (told_change : told.Change) (number : ℕ) (was next : Option (List Value)) (before live after : ℕ) → body_before told_change ≡ option_map (body_of number) was → body_after told_change ≡ option_map (body_of number) next → after + one_if (is_some (option_map Values was)) ≡ before + one_if (is_some (option_map Values next)) → before ≡ live → after ≡ count_after told_change live
-count_by_bodies (Insert relation tid values) number was next before live after old new both same = omega (arith, both, same, count_of_none was (no_body _ was old), count_of_some next (some_body _ next new))
-count_by_bodies (Delete relation tid values) number was next before live after old new both same = omega (arith, both, same, count_of_some was (some_body _ was old), count_of_none next (no_body _ next new))
-count_by_bodies (Update relation tid from to) number was next before live after old new both same = omega (arith, both, same, count_of_some was (some_body _ was old), count_of_some next (some_body _ next new))
-count_by_bodies (Connect link parent child left) number was next before live after old new both same = omega (arith, both, same, count_of_none was (no_body _ was old), count_of_none next (no_body _ next new))
-count_by_bodies (Disconnect link parent child left) number was next before live after old new both same = omega (arith, both, same, count_of_none was (no_body _ was old), count_of_none next (no_body _ next new))
+count_by_values : (told_change : told.Change) (was next : Option (List Value)) (before live after : ℕ) → values_before told_change ≡ option_map tuple_bytes was → values_after told_change ≡ option_map tuple_bytes next → after + one_if (is_some (option_map Values was)) ≡ before + one_if (is_some (option_map Values next)) → before ≡ live → after ≡ count_after told_change live
+count_by_values (Insert relation tid values) was next before live after old new both same = omega (arith, both, same, count_of_none was (no_body _ was old), count_of_some next (some_body _ next new))
+count_by_values (Delete relation tid values) was next before live after old new both same = omega (arith, both, same, count_of_some was (some_body _ was old), count_of_none next (no_body _ next new))
+count_by_values (Update relation tid from to) was next before live after old new both same = omega (arith, both, same, count_of_some was (some_body _ was old), count_of_some next (some_body _ next new))
+count_by_values (Connect link parent child left) was next before live after old new both same = omega (arith, both, same, count_of_none was (no_body _ was old), count_of_none next (no_body _ next new))
+count_by_values (Disconnect link parent child left) was next before live after old new both same = omega (arith, both, same, count_of_none was (no_body _ was old), count_of_none next (no_body _ next new))
 
 -- ---- the pages of the relation
 
-told_pages : (listing : Listing) (told_change : told.Change) {relation : RelationEntry} → relation_at listing (number_told told_change) ≡ Some relation → (key : PageKey) → pages_told listing told_change key → (key.segment ≡ relation.segment) × content_of listing key
-told_pages listing told_change at key is = subst (λ (found : Option RelationEntry). pages_of_relation listing found key) at is
+-- those that the change may touch
+same_pages : (listing : Listing) (told_change : told.Change) → IsTupleRecord told_change → pages_told listing told_change ≡ pages_of_relation listing (relation_at listing (number_told told_change))
+same_pages listing (Insert relation tid values) is = refl
+same_pages listing (Delete relation tid values) is = refl
+same_pages listing (Update relation tid from to) is = refl
+same_pages listing (Connect link parent child left) is = absurd is
+same_pages listing (Disconnect link parent child left) is = absurd is
 
-pub pages_are_told : (listing : Listing) (told_change : told.Change) {relation : RelationEntry} → relation_at listing (number_told told_change) ≡ Some relation → (key : PageKey) → key.segment ≡ relation.segment → content_of listing key → pages_told listing told_change key
-pages_are_told listing told_change at key segment content = subst (λ (found : Option RelationEntry). pages_of_relation listing found key) (sym at) (segment, content)
+told_pages : (listing : Listing) (told_change : told.Change) → IsTupleRecord told_change → {relation : RelationEntry} → relation_at listing (number_told told_change) ≡ Some relation → (key : PageKey) → pages_told listing told_change key → (key.segment ≡ relation.segment) × content_of listing key
+told_pages listing told_change of at key is =
+    subst (λ (found : Option RelationEntry). pages_of_relation listing found key) at (subst (λ (pages : Keys). pages key) (same_pages listing told_change of) is)
+
+pub pages_are_told : (listing : Listing) (told_change : told.Change) → IsTupleRecord told_change → {relation : RelationEntry} → relation_at listing (number_told told_change) ≡ Some relation → (key : PageKey) → key.segment ≡ relation.segment → content_of listing key → pages_told listing told_change key
+pages_are_told listing told_change of at key segment content =
+    subst (λ (pages : Keys). pages key) (sym (same_pages listing told_change of)) (subst (λ (found : Option RelationEntry). pages_of_relation listing found key) (sym at) (segment, content))
 
 -- ---- the tables
 
@@ -71,7 +85,7 @@ over_less old new space limit same = range-le (mapped_in new space limit) (mappe
     one_less true b is = omega (arith, ap one_if (is refl))
     one_less false b is = omega arith
 
-module _ {cost : ℕ} {old new : AccessView} {told_change : told.Change} (step : PagesStep (pages_told old.catalog.listing told_change) cost cost old.pages new.pages) (alters : Alters told_change old new) (told : IsTold old.pages.disk) {tables : Tables} (spells : SpellsTables old.pages.held old.catalog.listing tables) (was next : Option (List Value)) where
+module _ {cost : ℕ} {old new : AccessView} {told_change : told.Change} (is : IsTupleRecord told_change) (step : PagesStep (pages_told old.catalog.listing told_change) cost cost old.pages new.pages) (alters : AltersTuple told_change old new) (told : IsTold old.pages.disk) {tables : Tables} (spells : SpellsTables old.pages.held old.catalog.listing tables) (mine : prefix_of old.catalog.listing tables.contents (number_told told_change) (tid_told told_change) ≡ alters.prefix) (was next : Option (List Value)) where
   abbrev number : ℕ
   number = number_told told_change
 
@@ -91,25 +105,31 @@ module _ {cost : ℕ} {old new : AccessView} {told_change : told.Change} (step :
   abbrev next_tables : Tables
   next_tables = after_move move tables
 
-  module _ (before : body_before told_change ≡ option_map (body_of number) was) (after : body_after told_change ≡ option_map (body_of number) next) (can : CanMove old.catalog.listing move tables) where
-    sets : SetsBody relation.segment tid (option_map (body_of number) next) old.pages new.pages
-    sets = subst (λ (body : Option (List ℕ)). SetsBody relation.segment tid body old.pages new.pages) after (alters.changes.sets told)
+  module _ (before : values_before told_change ≡ option_map tuple_bytes was) (after : values_after told_change ≡ option_map tuple_bytes next) (can : CanMove old.catalog.listing move tables) where
+    body_was : body_before alters.prefix told_change ≡ option_map (spelled_with number alters.prefix) was
+    body_was = bodies_told number alters.prefix (values_before told_change) was before
+
+    body_now : body_after alters.prefix told_change ≡ option_map (spelled_with number alters.prefix) next
+    body_now = bodies_told number alters.prefix (values_after told_change) next after
+
+    sets : SetsBody relation.segment tid (option_map (spelled_with number alters.prefix) next) old.pages new.pages
+    sets = subst (λ (body : Option (List ℕ)). SetsBody relation.segment tid body old.pages new.pages) body_now (alters.changes.sets told)
 
     absent : was ≡ None → body_at old.pages relation.segment tid ≡ None
-    absent none = alters.found told ∙ before ∙ ap (option_map (body_of number)) none
+    absent none = alters.found told ∙ body_was ∙ ap (option_map (spelled_with number alters.prefix)) none
 
     -- a page of another segment is as it was
     held_off : (key : PageKey) → key.segment ≢ relation.segment → new.pages.held key ≡ old.pages.held key
-    held_off key off = step.held_off told key (λ touched. off (told_pages old.catalog.listing told_change alters.listed key touched).0)
+    held_off key off = step.held_off told key (λ touched. off (told_pages old.catalog.listing told_change is alters.listed key touched).0)
 
     recounts : Recounts number relation old.catalog.listing new.catalog.listing
     recounts = recounts_by alters.counts alters.listed
 
     -- the bodies are those of the tuples after the change
-    contents_by : {listing : Listing} → Recounts number relation old.catalog.listing listing → PlainContents listing (bodies_of new.pages.held) next_tables.contents
+    contents_by : {listing : Listing} → Recounts number relation old.catalog.listing listing → SpellsContents listing (bodies_of new.pages.held) next_tables.contents
     contents_by {listing = listing} recounted =
-        subst (λ (bodies : Bodies). PlainContents listing bodies next_tables.contents) (sym sets.bodies)
-        (contents_changed spells.listed.relations_once alters.listed recounted (contents_spelled spells) tid was next can.holds absent can.next_storable)
+        subst (λ (bodies : Bodies). SpellsContents listing bodies next_tables.contents) (sym sets.bodies)
+        (contents_changed spells.listed.relations_once alters.listed recounted spells.contents tid alters.prefix mine was next can.holds absent can.next_storable)
 
     -- so many tuples are there afterwards
     pub count_is : tuple_count next_tables.contents relation.name ≡ count_after told_change relation.live
@@ -117,7 +137,7 @@ module _ {cost : ℕ} {old new : AccessView} {told_change : told.Change} (step :
         let mine : is_tuple_of relation.name item ≡ true = tied name_total name_apart relation.name in
         let both = counts_put tables.contents item (option_map Values next) relation.name mine in
         let was_there : one_if (is_some (content tables.contents item)) ≡ one_if (is_some (option_map Values was)) = ap (λ (o : Option Content). one_if (is_some o)) can.holds in
-        count_by_bodies told_change number was next (tuple_count tables.contents relation.name) relation.live (tuple_count next_tables.contents relation.name) before after (omega (arith, both, was_there)) (spells.counts number relation alters.listed)
+        count_by_values told_change was next (tuple_count tables.contents relation.name) relation.live (tuple_count next_tables.contents relation.name) before after (omega (arith, both, was_there)) (spells.counts number relation alters.listed)
 
     pub others_same : (other : Name) → other ≢ relation.name → tuple_count next_tables.contents other ≡ tuple_count tables.contents other
     others_same other apart = counts_same tables.contents item (option_map Values next) other (not_tied name_total name_apart other relation.name apart)
@@ -149,8 +169,7 @@ module _ {cost : ℕ} {old new : AccessView} {told_change : told.Change} (step :
       listed = alters.counts.fits spells.listed;
       defines = defines_still alters.counts alters.listed spells.defines;
       counts = counts_are;
-      contents = spelled_contents (alters.counts.links ∙ spells.no_links) (contents_by recounts);
-      no_links = alters.counts.links ∙ spells.no_links;
+      contents = contents_by recounts;
       images = alters.images told move tables (record {
         tells = record { number = refl; tid = refl; before = before; after = after };
         can = can;
@@ -171,13 +190,15 @@ module _ {cost : ℕ} {old new : AccessView} {told_change : told.Change} (step :
         same_slots : mapped_of old.pages.mapped Overflow new.pages.slots ≡ mapped_of old.pages.mapped Overflow old.pages.slots
         same_slots = ap (mapped_of old.pages.mapped Overflow) slots
 
-        size_of : (w : Option (List Value)) → size_of_body (option_map (body_of number) w) ≡ held_size tables.definitions relation.name (option_map Values w)
+        size_of : (w : Option (List Value)) → size_of_body (option_map (spelled_with number alters.prefix) w) ≡ held_size tables.definitions relation.name (option_map Values w)
         size_of None = refl
-        size_of (Some values) = sym (values_size tables.definitions (no_links_defined spells.no_links spells.defines) relation.name number values)
+        size_of (Some values) =
+            ap (λ (prefix : List ℕ). size_of_body (Some (spelled_with number prefix values))) (sym mine)
+            ∙ sym (size_is spells.listed spells.defines number relation alters.listed tables.contents tid values)
 
         -- what the tuple held, by its body
         size_was : size_of_body (body_at old.pages relation.segment tid) ≡ held_size tables.definitions relation.name (option_map Values was)
-        size_was = ap size_of_body (alters.found told ∙ before) ∙ size_of was
+        size_was = ap size_of_body (alters.found told ∙ body_was) ∙ size_of was
 
         -- an overflow page was taken
         overfills : (key : PageKey) → key.space ≡ Overflow → new.pages.mapped key ≡ true → old.pages.mapped key ≡ false → Overfills next_tables item (option_map Values was) (option_map Values next)
@@ -190,12 +211,12 @@ module _ {cost : ℕ} {old new : AccessView} {told_change : told.Change} (step :
               is = refl;
               grows = omega (arith, sets.grows key space there none, size_was, size_of next);
               stands = stands_within next_tables spells.listed spells.defines number relation alters.listed so.0 so.1.within;
-              beyond = omega (arith, sets.over key space there none, bytes_less next_tables spells.listed spells.no_links spells.defines (contents_by (recounts_itself alters.listed)) relation.segment so.0 so.1.within tid.page);
+              beyond = omega (arith, sets.over key space there none, bytes_less next_tables spells.listed spells.defines (contents_by (recounts_itself alters.listed)) relation.segment so.0 so.1.within tid.page);
             }
 
 -- ---- from all tables in which it may be applied
 
-module _ {cost : ℕ} {old new : AccessView} {told_change : told.Change} (is : IsTupleRecord told_change) (step : PagesStep (pages_told old.catalog.listing told_change) cost cost old.pages new.pages) (alters : Alters told_change old new) (told : IsTold old.pages.disk) (tables : Tables) (change : Change) (can : CanApply old told_change tables change) where
+module _ {cost : ℕ} {old new : AccessView} {told_change : told.Change} (is : IsTupleRecord told_change) (step : PagesStep (pages_told old.catalog.listing told_change) cost cost old.pages new.pages) (alters : AltersTuple told_change old new) (told : IsTold old.pages.disk) (tables : Tables) (change : Change) (can : CanApply old told_change tables change) where
   r : Reads old.catalog.listing told_change change
   r = reads told_change change is can.tells can.means
 
@@ -204,6 +225,10 @@ module _ {cost : ℕ} {old new : AccessView} {told_change : told.Change} (is : I
 
   moves : CanMove old.catalog.listing (record { number = number_told told_change; relation = alters.relation; tid = tid_told told_change; was = r.was; next = r.next }) tables
   moves = subst (λ (entry : RelationEntry). CanMove old.catalog.listing (record { number = number_told told_change; relation = entry; tid = tid_told told_change; was = r.was; next = r.next }) tables) one (shows_move can r alters.small (can_become told_change can r).named alters.room).can
+
+  -- what stands before the values is what the tables say
+  mine : prefix_of old.catalog.listing tables.contents (number_told told_change) (tid_told told_change) ≡ alters.prefix
+  mine = prefix_told (members_by alters.small can.spells can.fit.tuples can.fit.links can.fit.tids) told_change alters.relation alters.listed r.was moves.holds r.before alters.fitting (alters.found told)
 
   item_is : TupleItem alters.relation.name (tid_told told_change) ≡ change.item
   item_is = ap (λ (entry : RelationEntry). TupleItem entry.name (tid_told told_change)) (sym one) ∙ sym r.item
@@ -216,8 +241,8 @@ module _ {cost : ℕ} {old new : AccessView} {told_change : told.Change} (is : I
       same_contents = ap (λ (item : Item). put tables.contents item (option_map Values r.next)) item_is ∙ ap (put tables.contents change.item) (sym r.new)
 
   -- the pages spell the tables with the change applied
-  pub alters_tables : SpellsTables new.pages.held new.catalog.listing (applied tables change)
-  alters_tables = subst (λ (t : Tables). SpellsTables new.pages.held new.catalog.listing t) applied_tuple (altered_spells step alters told can.spells r.was r.next r.before r.after moves)
+  pub tuple_applies : SpellsTables new.pages.held new.catalog.listing (applied tables change)
+  tuple_applies = subst (λ (t : Tables). SpellsTables new.pages.held new.catalog.listing t) applied_tuple (altered_spells is step alters told can.spells mine r.was r.next r.before r.after moves)
 
   abbrev before : ℕ
   before = mapped_of old.pages.mapped Overflow old.pages.slots
@@ -229,32 +254,52 @@ module _ {cost : ℕ} {old new : AccessView} {told_change : told.Change} (is : I
   left_tables = with_tuple tables alters.relation.name (tid_told told_change) r.next
 
   -- there may be as many overflow pages then
-  pub alters_leads : MayLead (applied tables change) change.item change.old change.new before after
-  alters_leads =
+  pub tuple_leads : MayLead (applied tables change) change.item change.old change.new before after
+  tuple_leads =
       subst (λ (t : Tables). MayLead t change.item change.old change.new before after) applied_tuple
       (subst (λ (o : Option Content). MayLead left_tables change.item o change.new before after) (sym r.old)
       (subst (λ (o : Option Content). MayLead left_tables change.item (option_map Values r.was) o before after) (sym r.new)
       (subst (λ (item : Item). MayLead left_tables item (option_map Values r.was) (option_map Values r.next) before after) item_is
-      (may_lead step alters told can.spells r.was r.next r.before r.after moves step.passes.slots))))
+      (may_lead is step alters told can.spells mine r.was r.next r.before r.after moves step.passes.slots))))
+
+-- ---- by the kinds of changes
+
+-- the pages spell the tables with the change applied
+pub alters_tables : {cost : ℕ} (old new : AccessView) (told_change : told.Change) → PagesStep (pages_told old.catalog.listing told_change) cost cost old.pages new.pages → Alters told_change old new → IsTold old.pages.disk → (tables : Tables) (change : Change) → CanApply old told_change tables change
+    → SpellsTables new.pages.held new.catalog.listing (applied tables change)
+alters_tables old new (Insert n t values) = tuple_applies tt
+alters_tables old new (Delete n t values) = tuple_applies tt
+alters_tables old new (Update n t from to) = tuple_applies tt
+alters_tables old new (Connect link parent child left) = chain_applies
+alters_tables old new (Disconnect link parent child left) = chain_applies_off
+
+-- there may be as many overflow pages then
+pub alters_leads : {cost : ℕ} (old new : AccessView) (told_change : told.Change) → PagesStep (pages_told old.catalog.listing told_change) cost cost old.pages new.pages → Alters told_change old new → IsTold old.pages.disk → (tables : Tables) (change : Change) → CanApply old told_change tables change
+    → MayLead (applied tables change) change.item change.old change.new (mapped_of old.pages.mapped Overflow old.pages.slots) (mapped_of new.pages.mapped Overflow new.pages.slots)
+alters_leads old new (Insert n t values) = tuple_leads tt
+alters_leads old new (Delete n t values) = tuple_leads tt
+alters_leads old new (Update n t from to) = tuple_leads tt
+alters_leads old new (Connect link parent child left) = λ step alters told tables change can. chain_leads step alters told (applied tables change) change.item change.old change.new
+alters_leads old new (Disconnect link parent child left) = λ step alters told tables change can. chain_leads step alters told (applied tables change) change.item change.old change.new
 
 -- ---- by the result
 
-module _ {T : Type 0} {old new : AccessView} (told_change : told.Change) (result : Result T PageFault) (is : IsTupleRecord told_change) where
+module _ {T : Type 0} {old new : AccessView} (told_change : told.Change) (result : Result T PageFault) where
   pub applies_by : Makes told_change old new result → OnOk result (Applies told_change old new)
   applies_by makes = by result makes.alters
     where
       by : (r : Result T PageFault) → OnOk r (Alters told_change old new) → OnOk r (Applies told_change old new)
-      by (Ok value) done = alters_tables is makes.step done
+      by (Ok value) done = alters_tables old new told_change makes.step done
       by (Err e) done = tt
 
   pub undoes_by : Makes (reversed told_change) old new result → OnOk result (Undoes told_change old new)
   undoes_by makes = by result makes.alters
     where
       by : (r : Result T PageFault) → OnOk r (Alters (reversed told_change) old new) → OnOk r (Undoes told_change old new)
-      by (Ok value) done = λ told tables change can. alters_tables (reversed_tuple told_change is) makes.step done told tables (turned change) (can_turned can)
+      by (Ok value) done = λ told tables change can. alters_tables old new (reversed told_change) makes.step done told tables (turned change) (can_turned can)
       by (Err e) done = tt
 
 -- of a change that is turned round
-pub none_undoes : {at : AccessView} {told_change : told.Change} {place : Place} → CanAlter at → IsTold at.pages.disk → IsTupleRecord told_change → (HasTables at → Misfits (reversed told_change) at place) → HasRoom at (number_told told_change) → NoneUndoes told_change at
-none_undoes {at = at} {told_change = told_change} may disk is misfits room tables change can =
-    none_applies may disk (reversed_tuple told_change is) misfits (subst (HasRoom at) (sym (same_number told_change)) room) tables (turned change) (can_turned can)
+pub none_undoes : {at : AccessView} {told_change : told.Change} {place : Place} → CanAlter at → IsTold at.pages.disk → (HasTables at → Misfits (reversed told_change) at place) → HasRoomFor at told_change → NoneUndoes told_change at
+none_undoes {at = at} {told_change = told_change} may disk misfits room tables change can =
+    none_applies may disk misfits (reversed_room at told_change room) tables (turned change) (can_turned can)

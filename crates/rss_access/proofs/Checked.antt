@@ -1,8 +1,7 @@
 -- An image that was checked is the list of its relation's tuples; and one that isn't what a check wants of it shows no tables.
 use Rattle.std.proofs.Common.{◌≡◌, ℕ, ◌<◌, ◌^◌, true, Bool, List, [], ◌∷◌, length, take, refl, sym, ◌∙◌, ap, subst, arith}
-use Rattle.std.specs.Prelude.{Option, Some, None, All, Contains, is_some, map as list_map}
+use Rattle.std.specs.Prelude.{Some, None, All, Contains, is_some, map as list_map}
 use Rattle.std.proofs.lemmas.List.{length-map}
-use Rattle.std.proofs.lemmas.Option.{same_Some}
 use Rattle.rss_base.specs.PageMap.{IsKey}
 use Rattle.rss_base.specs.Paged.{page_key}
 use Rattle.rss_base.specs.Steps.{PagesView}
@@ -31,13 +30,11 @@ use Rattle.rss_image.specs.declared.image.Image.{Image}
 use Rattle.rss_image.proofs.Others.{pairs_rise as tree_rises}
 use Rattle.rss_image.proofs.Laid.{zeros_page}
 use Rattle.rss_image.proofs.Putting.{spell_one}
-use Rattle.rss_tuple.specs.Directory.{bodies_of}
-use Rattle.rss_model.specs.Items.{Content, Values}
+use Rattle.rss_model.specs.Items.{Values}
 use Rattle.rss_model.specs.Tables.{Tables, content}
 use Rattle.rss_model.specs.Images.{Entry, image_list}
 use Rattle.rss_model.specs.Store.{IsListedImage, image_definition, pair_spelled}
 use Rattle.rss_model.proofs.Mixing.{In}
-use Rattle.rss_model.proofs.PlainStores.{PlainContents, plain_contents}
 use Rattle.rss_model.proofs.RelationLists.{entry_there}
 use Rattle.rss_model.proofs.Spelled.{tuple_bytes_same}
 use Rattle.rss_entries.specs.Rooms.{width_of}
@@ -53,6 +50,7 @@ use Rattle.rss_entries.proofs.Standing.{AreLow, AreSpelledIn, IsRowed, StandsIn,
 use Rattle.rss_access.specs.Changes.{AccessView}
 use Rattle.rss_access.specs.Tuples.{body_at}
 use Rattle.rss_access.specs.Checking.{ShowsTuples, IsSound, IsSoundIn, ShowsThem, HasEntries}
+use Rattle.rss_access.proofs.Bodied.{IsTupleWith, body_holds, one_bytes, tuple_with, values_storable}
 use Rattle.rss_access.proofs.AsMany.{as_many, contains_in, same_count}
 use Rattle.rss_access.proofs.ImageKeys.{image_nodes as fitting}
 use Rattle.rss_access.proofs.NodesWithin.{nodes_below, made_below}
@@ -62,35 +60,12 @@ module _ {at : AccessView} (small : at.pages.slots < 2 ^ 32) {tables : Tables} (
   abbrev listing : Listing
   listing = at.catalog.listing
 
-  plain : PlainContents listing (bodies_of at.pages.held) tables.contents
-  plain = plain_contents shows.no_links shows.contents
-
   -- the tuple that a body is of
-  pub record IsTupleWith (number : ℕ) (relation : RelationEntry) (tid : Tid) (bytes : List ℕ) : Type 0 where
-    pub values : List Value
-    pub same : bytes ≡ tuple_bytes values
-    pub storable : All IsStorable values
-    pub holds : content tables.contents (TupleItem relation.name tid) ≡ Some (Values values)
-
-  pub tuple_of : (number : ℕ) (relation : RelationEntry) → relation_at listing number ≡ Some relation → (tid : Tid) (bytes : List ℕ) → body_at at.pages relation.segment tid ≡ Some (number ∷ bytes) → IsTupleWith number relation tid bytes
-  tuple_of number relation its tid bytes stands =
-      let of = plain.bodies_are relation.segment tid (number ∷ bytes) stands in
-      let parts = parts_of of.is in
-      let one : of.relation ≡ relation = same_Some _ _ (sym of.at ∙ ap (relation_at listing) (sym parts.0) ∙ its) in
-      record { values = of.values; same = parts.1; storable = of.storable; holds = ap (λ (r : RelationEntry). content tables.contents (TupleItem r.name tid)) (sym one) ∙ of.holds }
-    where
-      parts_of : {k j : ℕ} {x y : List ℕ} → k ∷ x ≡ j ∷ y → (k ≡ j) × (x ≡ y)
-      parts_of same = (cc, cc)
+  pub tuple_of : (number : ℕ) (relation : RelationEntry) → relation_at listing number ≡ Some relation → (tid : Tid) (rest : List ℕ) → body_at at.pages relation.segment tid ≡ Some (number ∷ rest) → IsTupleWith listing tables.contents number relation tid rest
+  tuple_of = tuple_with shows.contents
 
   pub all_stored : (name : Name) (tid : Tid) (values : List Value) → content tables.contents (TupleItem name tid) ≡ Some (Values values) → All IsStorable values
-  all_stored name tid values holds =
-      let on = plain.only (TupleItem name tid) (ap is_some holds) in
-      let mine : content tables.contents (TupleItem on.relation.name on.tid) ≡ Some (Values values) = ap (content tables.contents) (sym on.is) ∙ holds in
-      let of = tuple_of on.number on.relation on.at on.tid (tuple_bytes values) (plain.stands on.number on.relation on.tid values on.at mine) in
-      subst (All IsStorable) (values_same (sym of.holds ∙ mine)) of.storable
-    where
-      values_same : {a b : List Value} → ◌≡◌ {A = Option Content} (Some (Values a)) (Some (Values b)) → a ≡ b
-      values_same same = cc
+  all_stored = values_storable shows.contents
 
   pub all_spelled : (name : Name) (tid : Tid) → is_some (content tables.contents (TupleItem name tid)) ≡ true → IsSpelledTid tid
   all_spelled name tid there = let id = shows.tids name tid there in record { page = omega (arith, id.page, small); slot = omega (arith, id.slot) }
@@ -118,28 +93,32 @@ module _ {at : AccessView} (small : at.pages.slots < 2 ^ 32) {tables : Tables} (
     -- ---- entries and pairs
 
     -- where each tuple has its entry, each pair of the list is there
-    pairs_among : HasEntries (key_of image relation) image.relation entry_image at.pages → (pairs : List (List ℕ)) → ImageTree entry_image at.pages.held pairs → (a : List ℕ) → In a pairs_shown → In a pairs
+    pairs_among : HasEntries listing (key_of image relation) image.relation entry_image at.pages → (pairs : List (List ℕ)) → ImageTree entry_image at.pages.held pairs → (a : List ℕ) → In a pairs_shown → In a pairs
     pairs_among has pairs tree a is =
         let of = tuple_pair shown a is in
         let fits = shown.tuples of.tid of.values of.there in
-        let entry = has of.tid (tuple_bytes of.values) (plain.stands image.relation relation of.tid of.values its.within of.there) in
-        let among = entry.there of.values (record { fit = fits.fit; storable = fits.storable; same = refl }) pairs tree in
+        let entry = has of.tid _ (shows.contents.stands image.relation relation of.tid of.values its.within of.there) in
+        let bytes : entry.0 ≡ tuple_bytes of.values = one_bytes entry.1 (body_holds listing tables.contents image.relation of.tid of.values) in
+        let among = entry.2.there of.values (record { fit = fits.fit; storable = fits.storable; same = bytes }) pairs tree in
         subst (λ (p : List ℕ). In p pairs) of.is (contains_in pairs (pair_with (key_of image relation) of.tid of.values) among)
 
     -- and where the image shows them, each tuple has its entry
-    entries_there : (pairs : List (List ℕ)) → ImageTree entry_image at.pages.held pairs → pairs ≡ pairs_shown → HasEntries (key_of image relation) image.relation entry_image at.pages
-    entries_there all tree is tid bytes stands =
-        let of = tuple_of image.relation relation its.within tid bytes stands in
-        let fits = shown.tuples tid of.values of.holds in
-        record {
-          spelled = (of.values, record { fit = fits.fit; storable = fits.storable; same = of.same });
-          there = λ values spells pairs other.
-              let same : pairs_shown ≡ pairs = sym is ∙ (spell_one entry_image at.pages.held all pairs tree other).pairs_are in
-              let one : of.values ≡ values = tuple_bytes_same 1 (kinds relation.fields) of.values values fits.fit spells.fit fits.storable spells.storable (sym of.same ∙ spells.same) in
-              subst (λ (ps : List (List ℕ)). Contains ps (pair_bytes (key_with (key_of image relation) values) tid)) same
-              (subst (λ (vs : List Value). Contains pairs_shown (pair_bytes (key_with (key_of image relation) vs) tid)) one
-              (in_contains pairs_shown (pair_with (key_of image relation) tid of.values) (pair_there shown tid of.values of.holds)));
-        }
+    entries_there : (pairs : List (List ℕ)) → ImageTree entry_image at.pages.held pairs → pairs ≡ pairs_shown → HasEntries listing (key_of image relation) image.relation entry_image at.pages
+    entries_there all tree is tid rest stands =
+        let of = tuple_of image.relation relation its.within tid rest stands in
+        let fits = shown.tuples tid of.values of.holds in (
+          tuple_bytes of.values,
+          of.bytes,
+          record {
+            spelled = (of.values, record { fit = fits.fit; storable = fits.storable; same = refl });
+            there = λ values spells pairs other.
+                let same : pairs_shown ≡ pairs = sym is ∙ (spell_one entry_image at.pages.held all pairs tree other).pairs_are in
+                let one : of.values ≡ values = tuple_bytes_same 1 (kinds relation.fields) of.values values fits.fit spells.fit fits.storable spells.storable spells.same in
+                subst (λ (ps : List (List ℕ)). Contains ps (pair_bytes (key_with (key_of image relation) values) tid)) same
+                (subst (λ (vs : List Value). Contains pairs_shown (pair_bytes (key_with (key_of image relation) vs) tid)) one
+                (in_contains pairs_shown (pair_with (key_of image relation) tid of.values) (pair_there shown tid of.values of.holds)));
+          },
+        )
 
     -- ---- an image that was checked
 
@@ -169,7 +148,7 @@ module _ {at : AccessView} (small : at.pages.slots < 2 ^ 32) {tables : Tables} (
           }
 
       -- it has as many pairs as there are tuples, each of them its entry, and where it is unique no key is there twice
-      pub checked : (census : Census) → IsCensus entry_image at.pages census → census.pairs ≡ relation.live → (image.is_unique ≡ true → census.repeats ≡ None) → HasEntries (key_of image relation) image.relation entry_image at.pages
+      pub checked : (census : Census) → IsCensus entry_image at.pages census → census.pairs ≡ relation.live → (image.is_unique ≡ true → census.repeats ≡ None) → HasEntries listing (key_of image relation) image.relation entry_image at.pages
           → IsSoundIn census.pages at tables number image relation
       checked census is live once has =
           let same : pairs_shown ≡ is.pairs = as_many pairs_shown is.pairs (pairs_rise shown) (tree_rises is.tree) (pairs_among has is.pairs is.tree) (counted ∙ sym live ∙ is.count) in
@@ -200,17 +179,17 @@ module _ {at : AccessView} (small : at.pages.slots < 2 ^ 32) {tables : Tables} (
         found_once census is unique = is.repeats ∙ ap (first_repeat (width_of image relation)) (spell_one entry_image at.pages.held is.pairs pairs_shown is.tree rows.tree).pairs_are ∙ none_twice shown (sound.single unique)
 
         -- and each tuple's entry
-        pub found_entries : HasEntries (key_of image relation) image.relation entry_image at.pages
+        pub found_entries : HasEntries listing (key_of image relation) image.relation entry_image at.pages
         found_entries = entries_there pairs_shown rows.tree refl
 
 -- ---- the image of the catalog
 
 -- What a check finds of an image that shows tables.
-pub record IsFound (image : Image) (key : KeyKinds) (relation live : ℕ) (unique : Bool) (view : PagesView) : Type 0 where
+pub record IsFound (image : Image) (key : KeyKinds) (relation live : ℕ) (unique : Bool) (listing : Listing) (view : PagesView) : Type 0 where
   pub tree : HasSoundImage image view
   pub counts : (census : Census) → IsCensus image view census → census.pairs ≡ live
   pub once : (census : Census) → IsCensus image view census → unique ≡ true → census.repeats ≡ None
-  pub entries : HasEntries key relation image view
+  pub entries : HasEntries listing key relation image view
 
 -- a page of an image is one of the store's slots
 some_slot : {image : Image} {pairs : List (List ℕ)} (view : PagesView) → ((key : PageKey) → is_some (view.held key) ≡ view.mapped key) → ((key : PageKey) → view.mapped key ≡ true → IsKey view.slots key) → ImageTree image view.held pairs → 0 < view.slots
@@ -227,26 +206,26 @@ module _ {at : AccessView} (small : at.pages.slots < 2 ^ 32) (holds : (key : Pag
     (number : ℕ) (entry : ImageEntry) (relation : RelationEntry) (its : IsListedImage at.catalog.listing number entry relation) (fit : AreNodes (image_nodes (image_of number entry relation)))
     (image : Image) (image_is : image_of number entry relation ≡ image) (key : KeyKinds) (key_is : key_of entry relation ≡ key) where
   -- it shows all tables that the tuples do
-  pub shows_them : (census : Census) → IsCensus image at.pages census → census.pairs ≡ relation.live → (entry.is_unique ≡ true → census.repeats ≡ None) → HasEntries key entry.relation image at.pages → ShowsThem at number census.pages
+  pub shows_them : (census : Census) → IsCensus image at.pages census → census.pairs ≡ relation.live → (entry.is_unique ≡ true → census.repeats ≡ None) → HasEntries at.catalog.listing key entry.relation image at.pages → ShowsThem at number census.pages
   shows_them census is live once has tables other others shows listed =
       let here = subst (λ (i : Image). IsCensus i at.pages census) (sym image_is) is in
-      let entries = subst (λ (i : Image). HasEntries (key_of entry relation) entry.relation i at.pages) (sym image_is) (subst (λ (k : KeyKinds). HasEntries k entry.relation image at.pages) (sym key_is) has) in
+      let entries = subst (λ (i : Image). HasEntries at.catalog.listing (key_of entry relation) entry.relation i at.pages) (sym image_is) (subst (λ (k : KeyKinds). HasEntries at.catalog.listing k entry.relation image at.pages) (sym key_is) has) in
       at_same (λ n e r. IsSoundIn census.pages at tables n e r) refl (same_entry its listed refl)
       (checked small shows (low_at at small holds allowed) its fit (some_slot at.pages holds allowed here.tree) census here live once entries)
 
   -- and what it has where it does
-  pub found_where : (tables : Tables) (other : ImageEntry) (others : RelationEntry) → ShowsTuples at tables → IsListedImage at.catalog.listing number other others → IsSound at tables number other others → IsFound image key entry.relation relation.live entry.is_unique at.pages
+  pub found_where : (tables : Tables) (other : ImageEntry) (others : RelationEntry) → ShowsTuples at tables → IsListedImage at.catalog.listing number other others → IsSound at tables number other others → IsFound image key entry.relation relation.live entry.is_unique at.catalog.listing at.pages
   found_where tables other others shows listed sound =
       let here = at_same (λ n e r. IsSound at tables n e r) refl (same_entry listed its refl) sound in
       let low = low_at at small holds allowed in
       let some = some_slot at.pages holds allowed (rowed low fit here.spells).tree in
-      let found : IsFound (image_of number entry relation) (key_of entry relation) entry.relation relation.live entry.is_unique at.pages = record {
+      let found : IsFound (image_of number entry relation) (key_of entry relation) entry.relation relation.live entry.is_unique at.catalog.listing at.pages = record {
         tree = found_sound small shows low its fit some here;
         counts = found_live small shows low its fit some here;
         once = found_once small shows low its fit some here;
         entries = found_entries small shows low its fit some here;
       } in
-      subst (λ (k : KeyKinds). IsFound image k entry.relation relation.live entry.is_unique at.pages) key_is (subst (λ (i : Image). IsFound i (key_of entry relation) entry.relation relation.live entry.is_unique at.pages) image_is found)
+      subst (λ (k : KeyKinds). IsFound image k entry.relation relation.live entry.is_unique at.catalog.listing at.pages) key_is (subst (λ (i : Image). IsFound i (key_of entry relation) entry.relation relation.live entry.is_unique at.catalog.listing at.pages) image_is found)
 
 -- by what the catalog tells of the image and its relation
 module _ (at : AccessView) (small : at.pages.slots < 2 ^ 32) (holds : (key : PageKey) → is_some (at.pages.held key) ≡ at.pages.mapped key) (allowed : (key : PageKey) → at.pages.mapped key ≡ true → IsKey at.pages.slots key)
@@ -264,8 +243,8 @@ module _ (at : AccessView) (small : at.pages.slots < 2 ^ 32) (holds : (key : Pag
   key_is : key_of entry relation ≡ key
   key_is = λ i. record { fields = kinds (sym fields_are i); which = take (sym count_is i) entry.fields }
 
-  pub shows_here : (census : Census) → IsCensus image at.pages census → census.pairs ≡ relation.live → (entry.is_unique ≡ true → census.repeats ≡ None) → HasEntries key entry.relation image at.pages → ShowsThem at number census.pages
+  pub shows_here : (census : Census) → IsCensus image at.pages census → census.pairs ≡ relation.live → (entry.is_unique ≡ true → census.repeats ≡ None) → HasEntries at.catalog.listing key entry.relation image at.pages → ShowsThem at number census.pages
   shows_here = shows_them small holds allowed number entry relation (record { at = entry_at; within = its }) (fitting its safe places safe_too number) image image_is key key_is
 
-  pub found_here : (tables : Tables) (other : ImageEntry) (others : RelationEntry) → ShowsTuples at tables → IsListedImage at.catalog.listing number other others → IsSound at tables number other others → IsFound image key entry.relation relation.live entry.is_unique at.pages
+  pub found_here : (tables : Tables) (other : ImageEntry) (others : RelationEntry) → ShowsTuples at tables → IsListedImage at.catalog.listing number other others → IsSound at tables number other others → IsFound image key entry.relation relation.live entry.is_unique at.catalog.listing at.pages
   found_here = found_where small holds allowed number entry relation (record { at = entry_at; within = its }) (fitting its safe places safe_too number) image image_is key key_is

@@ -1,31 +1,28 @@
 -- The entries of a relation's tuples, gathered along the tuples of its segment.
-use Rattle.std.proofs.Common.{◌≡◌, ◌≢◌, ◌⊎◌, inl, inr, ⊎_elim, ℕ, ◌+◌, true, List, [], ◌∷◌, ◌++◌, refl, sym, ◌∙◌, ap, subst, arith}
-use Rattle.std.specs.Prelude.{Option, Some, None, All, IfSome, is_some, map as list_map}
+use Rattle.std.proofs.Common.{◌≡◌, ◌≢◌, ◌⊎◌, inl, inr, ⊎_elim, ℕ, ◌+◌, true, List, [], ◌∷◌, ◌++◌, refl, sym, ◌∙◌, ap, subst}
+use Rattle.std.specs.Prelude.{Option, Some, All, IfSome, is_some, map as list_map}
 use Rattle.std.proofs.lemmas.List.Elements.{All-push}
 use Rattle.rss_base.specs.DiskRule.{IsTold}
 use Rattle.rss_base.specs.Steps.{PagesView, PagesStep, no_page}
 use Rattle.rss_base.specs.declared.tid.Tid.{Tid}
 use Rattle.rss_base.specs.declared.relation.RelationEntry.{RelationEntry}
-use Rattle.rss_base.proofs.Steps.{rests, then}
+use Rattle.rss_base.proofs.Steps.{then}
 use Rattle.rss_levels.specs.Entries.{Each, Pairwise}
 use Rattle.rss_levels.proofs.Lists.{each_append, each_weaker, pairwise_append}
 use Rattle.rss_node.specs.Pairs.{IsSpelledTid}
+use Rattle.rss_catalog.specs.Catalogs.{CatalogView}
 use Rattle.rss_model.proofs.Mixing.{In}
 use Rattle.rss_tuple.specs.Finding.{IsAfter, IsNext}
 use Rattle.rss_tuple.specs.TupleSteps.{IsBelow, IsLeast, NoneIs, tuples_in}
-use Rattle.rss_access.specs.Filling.{HasBytes, IsKeyAt, IsMisspelled, IsEntryLong, keys_by}
-use Rattle.rss_access.specs.Tuples.{body_at, FindsBody}
+use Rattle.rss_access.specs.Changes.{both}
+use Rattle.rss_access.specs.Filling.{HasBody, IsKeyAt, IsMisspelled, IsEntryLong, keys_by}
+use Rattle.rss_access.specs.Tuples.{FindsBody}
 use Rattle.rss_access.proofs.NextTuples.{IsTid, cases_tid, after_then, below_never}
 use Rattle.rss_access.proofs.Walked.{body_still}
 
--- the bytes behind the number of a tuple that was found
-pub bytes_found : {pages : PagesView} {segment number : ℕ} {tid : Tid} {body : List ℕ} → FindsBody segment number tid pages true body → (first : ℕ) (bytes : List ℕ) → first ∷ bytes ≡ body → body_at pages segment tid ≡ Some (number ∷ bytes)
-bytes_found {number = number} finds first bytes same =
-    let found = finds.some refl in
-    found.1 ∙ ap (λ (b : List ℕ). Some b) (found.0 ∙ ap (λ (b : List ℕ). number ∷ b) (sym (rest_same (same ∙ found.0))))
-  where
-    rest_same : {a b : ℕ} {x y : List ℕ} → a ∷ x ≡ b ∷ y → x ≡ y
-    rest_same same = cc
+-- a tuple that was found is one of the relation
+pub body_found : {pages : PagesView} {number : ℕ} {relation : RelationEntry} {tid : Tid} {body : List ℕ} → FindsBody relation.segment number tid pages true body → (has : HasBody pages number relation tid) × (number ∷ has.rest ≡ body)
+body_found {number = number} finds = let found = finds.some refl in (record { rest = finds.rest; there = found.1 ∙ ap (λ (b : List ℕ). Some b) found.0 }, sym found.0)
 
 -- ---- on any device
 
@@ -48,49 +45,49 @@ module _ {last : Option Tid} {entries : List (List ℕ × Tid)} (so : AreApartTo
         (each_weaker (λ pair. IsAfter last pair.1 → ⊥) (λ pair. Each (λ (b : List ℕ × Tid). pair.1 ≢ b.1) ((key, tid) ∷ [])) entries (λ pair not. (λ same. not (subst (IsAfter last) (sym same) behind), tt)) so.passed);
   }
 
-module _ (number : ℕ) (relation : RelationEntry) (which : List ℕ) where
+module _ (catalog : CatalogView) (number : ℕ) (relation : RelationEntry) (which : List ℕ) where
   -- ---- where nothing was touched, there are the same tuples
 
   module _ {start now : PagesView} {asks outs : ℕ} (step : PagesStep no_page asks outs start now) (told : IsTold start.disk) where
-    bytes_then : (tid : Tid) → HasBytes start number relation tid → HasBytes now number relation tid
-    bytes_then tid has = record { bytes = has.bytes; there = body_still step told relation.segment tid ∙ has.there }
+    bytes_then : (tid : Tid) → HasBody start number relation tid → HasBody now number relation tid
+    bytes_then tid has = record { rest = has.rest; there = body_still step told relation.segment tid ∙ has.there }
 
-    pub key_back : (tid : Tid) (key : List ℕ) → IsKeyAt now number relation which tid key → IsKeyAt start number relation which tid key
-    key_back tid key is = record { has = record { bytes = is.has.bytes; there = sym (body_still step told relation.segment tid) ∙ is.has.there }; spelled = is.spelled; is = is.is }
+    pub key_back : (tid : Tid) (key : List ℕ) → IsKeyAt (both now catalog) number relation which tid key → IsKeyAt (both start catalog) number relation which tid key
+    key_back tid key is = record { has = record { rest = is.has.rest; there = sym (body_still step told relation.segment tid) ∙ is.has.there }; bytes = is.bytes; holds = is.holds; spelled = is.spelled; is = is.is }
 
-    pub misspelled_back : (tid : Tid) → IsMisspelled now number relation tid → IsMisspelled start number relation tid
-    misspelled_back tid is = record { has = record { bytes = is.has.bytes; there = sym (body_still step told relation.segment tid) ∙ is.has.there }; not = is.not }
+    pub misspelled_back : (tid : Tid) → IsMisspelled (both now catalog) number relation tid → IsMisspelled (both start catalog) number relation tid
+    misspelled_back tid is = record { has = record { rest = is.has.rest; there = sym (body_still step told relation.segment tid) ∙ is.has.there }; not = is.not }
 
   -- ---- the entries so far
 
   -- They are those of the tuples that don't stand behind `last`.
   pub record AreGatheredTo (pages : PagesView) (last : Option Tid) (entries : List (List ℕ × Tid)) : Type 0 where
-    pub each : Each (λ pair. IsKeyAt pages number relation which pair.1 pair.0) entries
-    pub all : (tid : Tid) → HasBytes pages number relation tid → IsAfter last tid ⊎ In tid (list_map (λ (pair : List ℕ × Tid). pair.1) entries)
+    pub each : Each (λ pair. IsKeyAt (both pages catalog) number relation which pair.1 pair.0) entries
+    pub all : (tid : Tid) → HasBody pages number relation tid → IsAfter last tid ⊎ In tid (list_map (λ (pair : List ℕ × Tid). pair.1) entries)
 
   abbrev tids_in : List (List ℕ × Tid) → List Tid
   tids_in entries = list_map (λ (pair : List ℕ × Tid). pair.1) entries
 
-  module _ {pages : PagesView} {last : Option Tid} {entries : List (List ℕ × Tid)} (so : AreGatheredTo pages last entries) (tid : Tid) (least : (other : Tid) → HasBytes pages number relation other → IsAfter last other → IsBelow other tid → ⊥) where
+  module _ {pages : PagesView} {last : Option Tid} {entries : List (List ℕ × Tid)} (so : AreGatheredTo pages last entries) (tid : Tid) (least : (other : Tid) → HasBody pages number relation other → IsAfter last other → IsBelow other tid → ⊥) where
     -- where each tuple stands, once the one with this identifier was looked at
-    all_then : (others : List (List ℕ × Tid)) → (HasBytes pages number relation tid → In tid (tids_in others)) → ((other : Tid) → In other (tids_in entries) → In other (tids_in others))
-        → (other : Tid) → HasBytes pages number relation other → IsAfter (Some tid) other ⊎ In other (tids_in others)
+    all_then : (others : List (List ℕ × Tid)) → (HasBody pages number relation tid → In tid (tids_in others)) → ((other : Tid) → In other (tids_in entries) → In other (tids_in others))
+        → (other : Tid) → HasBody pages number relation other → IsAfter (Some tid) other ⊎ In other (tids_in others)
     all_then others here more other has = ⊎_elim
         (λ after. elim (cases_tid other tid) [
           | inl before ↦ absurd (least other has after before)
-          | inr (inl same) ↦ inr (subst (λ (t : Tid). In t (tids_in others)) (sym same) (here (subst (HasBytes pages number relation) same has)))
+          | inr (inl same) ↦ inr (subst (λ (t : Tid). In t (tids_in others)) (sym same) (here (subst (HasBody pages number relation) same has)))
           | inr (inr beyond) ↦ inl beyond
         ])
         (λ is. inr (more other is)) (so.all other has)
 
     -- it is another relation's
-    pub gathered_past : (HasBytes pages number relation tid → ⊥) → AreGatheredTo pages (Some tid) entries
+    pub gathered_past : (HasBody pages number relation tid → ⊥) → AreGatheredTo pages (Some tid) entries
     gathered_past none = record { each = so.each; all = all_then entries (λ has. absurd (none has)) (λ other is. is) }
 
     -- or it has this key
-    pub gathered_more : (key : List ℕ) → IsKeyAt pages number relation which tid key → AreGatheredTo pages (Some tid) (entries ++ (key, tid) ∷ [])
+    pub gathered_more : (key : List ℕ) → IsKeyAt (both pages catalog) number relation which tid key → AreGatheredTo pages (Some tid) (entries ++ (key, tid) ∷ [])
     gathered_more key is = record {
-      each = each_append (λ pair. IsKeyAt pages number relation which pair.1 pair.0) entries ((key, tid) ∷ []) so.each (is, tt);
+      each = each_append (λ pair. IsKeyAt (both pages catalog) number relation which pair.1 pair.0) entries ((key, tid) ∷ []) so.each (is, tt);
       all = all_then (entries ++ (key, tid) ∷ []) (λ has. at_end entries) (λ other is. in_front entries other is);
     }
       where
@@ -105,12 +102,12 @@ module _ (number : ℕ) (relation : RelationEntry) (which : List ℕ) where
 
   -- They are those of all tuples, none of them twice.
   pub record AreGathered (pages : PagesView) (entries : List (List ℕ × Tid)) : Type 0 where
-    pub each : Each (λ pair. IsKeyAt pages number relation which pair.1 pair.0) entries
+    pub each : Each (λ pair. IsKeyAt (both pages catalog) number relation which pair.1 pair.0) entries
     pub apart : Pairwise (λ a b. a.1 ≢ b.1) entries
-    pub all : (tid : Tid) → HasBytes pages number relation tid → In tid (tids_in entries)
+    pub all : (tid : Tid) → HasBody pages number relation tid → In tid (tids_in entries)
 
   -- behind the last tuple there is none
-  gathered_all : {pages : PagesView} {last : Option Tid} {entries : List (List ℕ × Tid)} → AreApartTo last entries → AreGatheredTo pages last entries → ((tid : Tid) → HasBytes pages number relation tid → IsAfter last tid → ⊥) → AreGathered pages entries
+  gathered_all : {pages : PagesView} {last : Option Tid} {entries : List (List ℕ × Tid)} → AreApartTo last entries → AreGatheredTo pages last entries → ((tid : Tid) → HasBody pages number relation tid → IsAfter last tid → ⊥) → AreGathered pages entries
   gathered_all {entries = entries} apart so none = record {
     each = so.each;
     apart = apart.apart;
@@ -129,20 +126,9 @@ module _ (number : ℕ) (relation : RelationEntry) (which : List ℕ) where
     pub spelled : All (λ pair. IsSpelledTid pair.1) entries
     pub within : IfSome last IsTid
 
-  pub gathered_none : (start : PagesView) → Gathered start start None []
-  gathered_none start = record {
-    most = 0;
-    step = rests start;
-    are = λ told. record { each = tt; all = λ tid has. inl tt };
-    apart = record { passed = tt; apart = tt };
-    long = λ k d low. absurd (omega (arith, low));
-    spelled = λ k d low. absurd (omega (arith, low));
-    within = tt;
-  }
-
   module _ {start now : PagesView} {last : Option Tid} {entries : List (List ℕ × Tid)} (so : Gathered start now last entries) where
     -- a tuple of the relation is one of the segment's
-    next_of : IsTold start.disk → (tid : Tid) → HasBytes start number relation tid → IsAfter last tid → IsNext (tuples_in now) relation.segment last tid
+    next_of : IsTold start.disk → (tid : Tid) → HasBody start number relation tid → IsAfter last tid → IsNext (tuples_in now) relation.segment last tid
     next_of told tid has behind = record { behind = behind; live = subst (λ (o : Option (List ℕ)). is_some o ≡ true) (sym (body_still so.step told relation.segment tid ∙ has.there)) refl }
 
     pub gathered_end : IsTold start.disk → NoneIs (IsNext (tuples_in now) relation.segment last) → AreGathered start entries
@@ -150,10 +136,10 @@ module _ (number : ℕ) (relation : RelationEntry) (which : List ℕ) where
 
     module _ (mid : PagesView) {asks outs : ℕ} (on : PagesStep no_page asks outs now mid) (tid : Tid) (behind : IsAfter last tid) (least : IsTold start.disk → IsLeast (IsNext (tuples_in now) relation.segment last) tid) where
       -- the tuple that was found has this key
-      pub gathered_key : (key : List ℕ) → IsTold start.disk → IsKeyAt mid number relation which tid key → AreGatheredTo start (Some tid) (entries ++ (key, tid) ∷ [])
+      pub gathered_key : (key : List ℕ) → IsTold start.disk → IsKeyAt (both mid catalog) number relation which tid key → AreGatheredTo start (Some tid) (entries ++ (key, tid) ∷ [])
       gathered_key key told is = gathered_more (so.are told) tid (λ other has after before. (least told).least other before (next_of told other has after)) key (key_back (then so.step on) told tid key is)
 
-      pub walked_past : (new : PagesView) {most : ℕ} → PagesStep no_page most most now new → IsTid tid → (IsTold start.disk → HasBytes mid number relation tid → ⊥) → Gathered start new (Some tid) entries
+      pub walked_past : (new : PagesView) {most : ℕ} → PagesStep no_page most most now new → IsTid tid → (IsTold start.disk → HasBody mid number relation tid → ⊥) → Gathered start new (Some tid) entries
       walked_past new {most = most} step is none = record {
         most = so.most + most;
         step = then so.step step;
@@ -164,7 +150,7 @@ module _ (number : ℕ) (relation : RelationEntry) (which : List ℕ) where
         within = is;
       }
 
-      pub walked_key : (new : PagesView) {most : ℕ} → PagesStep no_page most most now new → IsTid tid → (key : List ℕ) → IsEntryLong (keys_by relation which) (key, tid) → (IsTold start.disk → IsKeyAt mid number relation which tid key) → Gathered start new (Some tid) (entries ++ (key, tid) ∷ [])
+      pub walked_key : (new : PagesView) {most : ℕ} → PagesStep no_page most most now new → IsTid tid → (key : List ℕ) → IsEntryLong (keys_by relation which) (key, tid) → (IsTold start.disk → IsKeyAt (both mid catalog) number relation which tid key) → Gathered start new (Some tid) (entries ++ (key, tid) ∷ [])
       walked_key new {most = most} step is key long found = record {
         most = so.most + most;
         step = then so.step step;

@@ -5,7 +5,7 @@ use Rattle.std.specs.FinMap as map
 use Rattle.std.proofs.lemmas.Option.{none-some}
 use Rattle.rss_base.specs.DiskRule.{IsTold}
 use Rattle.rss_base.specs.Nodes.{Node}
-use Rattle.rss_base.specs.Paged.{mapped_of, page_key}
+use Rattle.rss_base.specs.Paged.{page_key}
 use Rattle.rss_base.specs.Sizes.{system_pages}
 use Rattle.rss_base.specs.Steps.{PagesStep, pages_in}
 use Rattle.rss_base.specs.Trees.{IsNodeAt}
@@ -25,14 +25,14 @@ use Rattle.rss_model.proofs.LogLists.{by_same}
 use Rattle.rss_model.proofs.Relisted.{number_set, number_kept, number_within_list}
 use Rattle.rss_entries.specs.Images.{image_of}
 use Rattle.rss_entries.proofs.Fitting.{fitting_nodes}
-use Rattle.rss_entries.proofs.LostImage.{loses_image, lost_image_counted}
+use Rattle.rss_entries.proofs.LostImage.{loses_image}
 use Rattle.rss_entries.proofs.NewImage.{TouchesImages, segment_kept}
 use Rattle.rss_entries.proofs.Shown.{byte_list}
 use Rattle.rss_entries.proofs.Standing.{IsRowed, rowed}
 use Rattle.rss_access.specs.Changes.{AccessView, CanAlter, HasTables}
 use Rattle.rss_access.specs.Trees.{TakesImage}
-use Rattle.rss_access.specs.Written.{AreWritten, heap_now}
-use Rattle.rss_access.proofs.ImageTouched.{AreLawful, are_low, touches, heap_stays, system_stays, written_beside, tables_imaged, can_imaged}
+use Rattle.rss_access.specs.Written.{AreWritten}
+use Rattle.rss_access.proofs.ImageTouched.{AreLawful, are_low, touches, system_stays, written_beside, tables_imaged, can_imaged}
 
 -- ---- what was done
 
@@ -72,11 +72,6 @@ module _ {old new : AccessView} {number : ℕ} {image : ImageEntry} {relation : 
   pub taken_written : ListingFits old.catalog.listing → IsTold old.pages.disk → length old.catalog.pending ≡ system_pages → AreWritten old.pages.held old.catalog → AreWritten new.pages.held new.catalog
   taken_written fit told places written = written_beside number None taken.takes.lists (omega (arith, bounds.1, fit.paths.image_places)) places old.pages.held new.pages.held (system_stays taken.step told) written
 
-  -- ---- how many pages there are
-
-  pub taken_heap : heap_now new.pages ≡ heap_now old.pages
-  taken_heap = heap_stays taken.step
-
   -- ---- the tables
 
   module _ (told : IsTold old.pages.disk) {tables : Tables} (spells : SpellsTables old.pages.held old.catalog.listing tables) where
@@ -99,10 +94,6 @@ module _ {old new : AccessView} {number : ℕ} {image : ImageEntry} {relation : 
 
     rows : IsRowed old.pages.held tables number image relation stood.0
     rows = rowed (are_low taken.before told) (fitting_nodes old.catalog.listing spells.listed number image relation taken.at) stood.1
-
-    -- no more image pages than before
-    pub taken_images : mapped_of new.pages.mapped ImageSpace new.pages.slots ≤ mapped_of old.pages.mapped ImageSpace old.pages.slots
-    taken_images = omega (arith, lost_image_counted old.pages new.pages taken.step taken.before.counted taken.after.counted destroys rows.tree)
 
     -- ---- identifiers in nodes
 

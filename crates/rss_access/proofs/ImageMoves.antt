@@ -1,5 +1,5 @@
 -- The entry of a tuple in one image of its relation, where a change tells the tuple's values: what a move of it may find, and what it leaves.
-use Rattle.std.proofs.Common.{◌≡◌, ℕ, ◌+◌, ◌<◌, ◌≤◌, true, List, ◌∷◌, inl, inr, refl, sym, ◌∙◌, ap, subst, arith}
+use Rattle.std.proofs.Common.{◌≡◌, ℕ, ◌+◌, ◌<◌, ◌≤◌, true, List, inl, inr, refl, sym, ◌∙◌, ap, subst, arith}
 use Rattle.std.specs.Prelude.{Option, Some, None, is_some, option_map, option_copied, All, IfSome}
 use Rattle.std.specs.Borrow.{Bor}
 use Rattle.std.proofs.lemmas.Bool.{cases_lt}
@@ -26,20 +26,24 @@ use Rattle.rss_image.specs.Images.{nodes_of}
 use Rattle.rss_image.specs.declared.image.Image.{Image}
 use Rattle.rss_model.specs.Items.{Values}
 use Rattle.rss_model.specs.Tables.{Tables, content}
-use Rattle.rss_model.specs.Store.{IsListedImage, SpellsImages, plain_body}
+use Rattle.rss_model.specs.Store.{IsListedImage, SpellsImages}
 use Rattle.rss_model.specs.Meanings.{rootless}
 use Rattle.rss_model.proofs.Spelled.{tuple_bytes_same}
+use Rattle.rss_entries.specs.Keyed.{IsOneKey, StaysEntry}
 use Rattle.rss_entries.specs.Moving.{KeyKinds, AreSpelled, MayMove, MovesEntry, MakesEntry}
 use Rattle.rss_entries.specs.Images.{TupleMove, CanMove, after_move, image_of, key_of}
 use Rattle.rss_access.specs.declared.edit.Edit.{Edit}
 use Rattle.rss_access.specs.declared.edit.Edit.TheVariants.{Insert, Delete, Update}
 use Rattle.rss_access.specs.declared.edit.TupleChange.{TupleChange}
-use Rattle.rss_access.specs.Changes.{AccessView, NodesStay, ShowsMove, both, number_told, tid_told, body_before, body_after, image_pages_of, AreValuesOf}
-use Rattle.rss_access.specs.Edits.{told_of, told_by, body_lent}
-use Rattle.rss_access.specs.Moved.{IsImageOf, ShowsMoveBelow, Reroots}
+use Rattle.rss_access.specs.Told.{number_told, tid_told, values_before, values_after, AreValuesOf}
+use Rattle.rss_access.specs.Changes.{AccessView, NodesStay, ShowsMove, both, image_pages_of}
+use Rattle.rss_access.specs.Edits.{told_of, told_by, values_lent}
+use Rattle.rss_access.specs.Moved.{IsImageOf, KeepsKeys, ShowsMoveBelow, Reroots, StaysAsItWas}
 use Rattle.rss_access.specs.Relisted.{Rerooted}
 use Rattle.rss_access.proofs.NodesMoved.{nodes_stay}
 use Rattle.rss_access.proofs.Numbered.{fields_listed}
+use Rattle.rss_base.proofs.Steps.{then as steps}
+use Rattle.rss_entries.proofs.Entries.{has_values}
 use Rattle.rss_entries.proofs.Standing.{AreLow}
 use Rattle.rss_entries.proofs.Showing.{shows_first, shows_next, shows_moved, shows_all, can_still}
 use Rattle.rss_entries.proofs.Places.{may_move, places_same, rooms_same}
@@ -65,25 +69,22 @@ record AreFit (fields : List FieldKind) (values : Option (List Value)) : Type 0 
   fit : IfSome values (λ v. misfit fields v ≡ None)
   storable : IfSome values (All IsStorable)
 
-rest_same : (n m : ℕ) (x y : List ℕ) → n ∷ x ≡ m ∷ y → x ≡ y
-rest_same n m x y same = cc
-
-module _ (fields : List FieldKind) (n m : ℕ) where
+module _ (fields : List FieldKind) where
   -- bytes are those of one tuple
-  same_values : (bytes : Option (Bor (List ℕ))) (values others : Option (List Value)) → body_lent m bytes ≡ option_map (plain_body n) values → AreFit fields values → AreSpelled fields (option_copied bytes) others → others ≡ values
+  same_values : (bytes : Option (Bor (List ℕ))) (values others : Option (List Value)) → values_lent bytes ≡ option_map tuple_bytes values → AreFit fields values → AreSpelled fields (option_copied bytes) others → others ≡ values
   same_values None None None is fit spelled = refl
   same_values None None (Some others) is fit spelled = absurd spelled
   same_values None (Some values) others is fit spelled = absurd (cc)
   same_values (Some b) None others is fit spelled = absurd (cc)
   same_values (Some b) (Some values) None is fit spelled = absurd spelled
   same_values (Some b) (Some values) (Some others) is fit spelled =
-      ap Some (tuple_bytes_same 1 fields others values spelled.fit fit.fit spelled.storable fit.storable (sym spelled.same ∙ rest_same m n b.now (tuple_bytes values) (same_Some _ _ is)))
+      ap Some (tuple_bytes_same 1 fields others values spelled.fit fit.fit spelled.storable fit.storable (sym spelled.same ∙ same_Some _ _ is))
 
-  are_spelled : (bytes : Option (Bor (List ℕ))) (values : Option (List Value)) → body_lent m bytes ≡ option_map (plain_body n) values → AreFit fields values → AreSpelled fields (option_copied bytes) values
+  are_spelled : (bytes : Option (Bor (List ℕ))) (values : Option (List Value)) → values_lent bytes ≡ option_map tuple_bytes values → AreFit fields values → AreSpelled fields (option_copied bytes) values
   are_spelled None None is fit = tt
   are_spelled None (Some values) is fit = absurd (cc)
   are_spelled (Some b) None is fit = absurd (cc)
-  are_spelled (Some b) (Some values) is fit = record { fit = fit.fit; storable = fit.storable; same = rest_same m n b.now (tuple_bytes values) (same_Some _ _ is) }
+  are_spelled (Some b) (Some values) is fit = record { fit = fit.fit; storable = fit.storable; same = same_Some _ _ is }
 
 -- ---- the values of the tuple that changes
 
@@ -127,38 +128,32 @@ pub tid_lent : (change : TupleChange) → tid_told (told_by change) ≡ change.t
 tid_lent change = tid_of_edit change.number change.tid change.edit
 
 -- the bytes of the values before and after a change
-pub record Lends (change : told.Change) (number : ℕ) (was next : Option (Bor (List ℕ))) : Type 0 where
-  pub before : body_before change ≡ body_lent number was
-  pub after : body_after change ≡ body_lent number next
+pub record Lends (change : told.Change) (was next : Option (Bor (List ℕ))) : Type 0 where
+  pub before : values_before change ≡ values_lent was
+  pub after : values_after change ≡ values_lent next
 
 -- they are those of a tuple, where the change's are
 module _ (fields : List FieldDef) (number : ℕ) (tid : Tid) where
-  spelled_was : (edit : Edit) (was : Option (Bor (List ℕ))) → AreValuesOf fields (told_of number tid edit) → body_before (told_of number tid edit) ≡ body_lent number was → IfSome (option_copied was) (SpellsSome (kinds fields))
-  spelled_was (Insert values) None are is = tt
-  spelled_was (Insert values) (Some b) are is = absurd (cc)
-  spelled_was (Delete values) None are is = absurd (cc)
-  spelled_was (Delete values) (Some b) are is = subst (SpellsSome (kinds fields)) (rest_same number number values.now b.now (same_Some _ _ is)) are
-  spelled_was (Update from to) None are is = absurd (cc)
-  spelled_was (Update from to) (Some b) are is = subst (SpellsSome (kinds fields)) (rest_same number number from.now b.now (same_Some _ _ is)) are.0
+  spelled_before : (edit : Edit) → AreValuesOf fields (told_of number tid edit) → IfSome (values_before (told_of number tid edit)) (SpellsSome (kinds fields))
+  spelled_before (Insert values) are = tt
+  spelled_before (Delete values) are = are
+  spelled_before (Update from to) are = are.0
 
-  spelled_next : (edit : Edit) (next : Option (Bor (List ℕ))) → AreValuesOf fields (told_of number tid edit) → body_after (told_of number tid edit) ≡ body_lent number next → IfSome (option_copied next) (SpellsSome (kinds fields))
-  spelled_next (Delete values) None are is = tt
-  spelled_next (Delete values) (Some b) are is = absurd (cc)
-  spelled_next (Insert values) None are is = absurd (cc)
-  spelled_next (Insert values) (Some b) are is = subst (SpellsSome (kinds fields)) (rest_same number number values.now b.now (same_Some _ _ is)) are
-  spelled_next (Update from to) None are is = absurd (cc)
-  spelled_next (Update from to) (Some b) are is = subst (SpellsSome (kinds fields)) (rest_same number number to.now b.now (same_Some _ _ is)) are.1
+  spelled_after : (edit : Edit) → AreValuesOf fields (told_of number tid edit) → IfSome (values_after (told_of number tid edit)) (SpellsSome (kinds fields))
+  spelled_after (Insert values) are = are
+  spelled_after (Delete values) are = tt
+  spelled_after (Update from to) are = are.1
 
 -- also by the kinds of the fields that a move is given
 module _ (change : TupleChange) (image : ImageEntry) (relation : RelationEntry) {key : KeyKinds} (is : key ≡ key_of image relation) (are : AreValuesOf relation.fields (told_by change)) where
-  given : (values : Option (List ℕ)) → IfSome values (SpellsSome (kinds relation.fields)) → IfSome values (SpellsSome key.fields)
-  given values = subst (λ (k : KeyKinds). IfSome values (SpellsSome k.fields)) (sym is)
+  given : {told lent : Option (List ℕ)} → told ≡ lent → IfSome told (SpellsSome (kinds relation.fields)) → IfSome lent (SpellsSome key.fields)
+  given {told = told} same so = subst (λ (values : Option (List ℕ)). IfSome values (SpellsSome key.fields)) same (subst (λ (k : KeyKinds). IfSome told (SpellsSome k.fields)) (sym is) so)
 
-  pub was_given : (was : Option (Bor (List ℕ))) → body_before (told_by change) ≡ body_lent change.number was → IfSome (option_copied was) (SpellsSome key.fields)
-  was_given was tells = given (option_copied was) (spelled_was relation.fields change.number change.tid change.edit was are tells)
+  pub was_given : (was : Option (Bor (List ℕ))) → values_before (told_by change) ≡ values_lent was → IfSome (option_copied was) (SpellsSome key.fields)
+  was_given was tells = given tells (spelled_before relation.fields change.number change.tid change.edit are)
 
-  pub next_given : (next : Option (Bor (List ℕ))) → body_after (told_by change) ≡ body_lent change.number next → IfSome (option_copied next) (SpellsSome key.fields)
-  next_given next tells = given (option_copied next) (spelled_next relation.fields change.number change.tid change.edit next are tells)
+  pub next_given : (next : Option (Bor (List ℕ))) → values_after (told_by change) ≡ values_lent next → IfSome (option_copied next) (SpellsSome key.fields)
+  next_given next tells = given tells (spelled_after relation.fields change.number change.tid change.edit are)
 
 -- the relation of an image has its number
 pub own_relation : {listing : Listing} {k number : ℕ} {image : ImageEntry} {relation : RelationEntry} → IsListedImage listing k image relation → IsImageOf listing k number → relation_at listing number ≡ Some relation
@@ -178,8 +173,8 @@ pub record Passes (change : told.Change) (k : ℕ) (image : ImageEntry) (relatio
 
 -- ---- an image of the relation
 
-module _ {k number : ℕ} {catalog : CatalogView} {image : ImageEntry} {relation : RelationEntry} (at : image_at catalog.listing k ≡ Some image) (within : relation_at catalog.listing image.relation ≡ Some relation)
-    {change : told.Change} {was next : Option (Bor (List ℕ))} (lends : Lends change number was next) {key : KeyKinds} {passed : Image} {tid : Tid} (passes : Passes change k image relation key passed tid) {old : PagesView} (low : AreLow old.held)
+module _ {k : ℕ} {catalog : CatalogView} {image : ImageEntry} {relation : RelationEntry} (at : image_at catalog.listing k ≡ Some image) (within : relation_at catalog.listing image.relation ≡ Some relation)
+    {change : told.Change} {was next : Option (Bor (List ℕ))} (lends : Lends change was next) {key : KeyKinds} {passed : Image} {tid : Tid} (passes : Passes change k image relation key passed tid) {old : PagesView} (low : AreLow old.held)
     (move : TupleMove) (tables : Tables) (shows : ShowsMoveBelow k (both old catalog) change move tables) where
   its : image.relation ≡ move.number
   its = passes.of ∙ shows.tells.number
@@ -202,17 +197,17 @@ module _ {k number : ℕ} {catalog : CatalogView} {image : ImageEntry} {relation
   image_same : passed ≡ image_of k image move.relation
   image_same = passes.image_is ∙ ap (image_of k image) one_relation
 
-  was_told : body_lent number was ≡ option_map (plain_body move.number) move.was
+  was_told : values_lent was ≡ option_map tuple_bytes move.was
   was_told = sym lends.before ∙ shows.tells.before
 
-  next_told : body_lent number next ≡ option_map (plain_body move.number) move.next
+  next_told : values_lent next ≡ option_map tuple_bytes move.next
   next_told = sym lends.after ∙ shows.tells.after
 
   -- the values that the bytes spell are those of the tuple
   pub may_be_moved : ((key : PageKey) → is_some (old.held key) ≡ old.mapped key) → (values : Option (List Value)) → AreSpelled key.fields (option_copied was) values
       → MayMove key tid values passed old
   may_be_moved holds values spelled =
-      let same : values ≡ move.was = same_values (kinds move.relation.fields) move.number number was move.was values was_told (old_fit shows.can) (subst (λ (f : List FieldKind). AreSpelled f (option_copied was) values) kinds_same spelled) in
+      let same : values ≡ move.was = same_values (kinds move.relation.fields) was move.was values was_told (old_fit shows.can) (subst (λ (f : List FieldKind). AreSpelled f (option_copied was) values) kinds_same spelled) in
       subst (λ (v : Option (List Value)). MayMove key tid v passed old) (sym same)
       (subst (λ (k : KeyKinds). MayMove k tid move.was passed old) (sym key_same)
       (subst (λ (t : Tid). MayMove (key_of image move.relation) t move.was passed old) (sym tid_same)
@@ -228,8 +223,8 @@ module _ {k number : ℕ} {catalog : CatalogView} {image : ImageEntry} {relation
       (subst (λ (t : Tid). P (key_of image move.relation) t move.was move.next passed) tid_same
       (subst (λ (k : KeyKinds). P k tid move.was move.next passed) key_same
       (all move.was move.next
-      (subst (λ (f : List FieldKind). AreSpelled f (option_copied was) move.was) (sym kinds_same) (are_spelled (kinds move.relation.fields) move.number number was move.was was_told (old_fit shows.can)))
-      (subst (λ (f : List FieldKind). AreSpelled f (option_copied next) move.next) (sym kinds_same) (are_spelled (kinds move.relation.fields) move.number number next move.next next_told (new_fit shows.can))))))
+      (subst (λ (f : List FieldKind). AreSpelled f (option_copied was) move.was) (sym kinds_same) (are_spelled (kinds move.relation.fields) was move.was was_told (old_fit shows.can)))
+      (subst (λ (f : List FieldKind). AreSpelled f (option_copied next) move.next) (sym kinds_same) (are_spelled (kinds move.relation.fields) next move.next next_told (new_fit shows.can))))))
 
   module _ (disk : IsTold old.disk) {new : PagesView} (new_low : AreLow new.held) (counted : AreCounted old) (new_counted : AreCounted new) {asks outs : ℕ} (step : PagesStep (pages_in passed.segment ImageSpace) asks outs old new)
       (after : Image) (nodes : nodes_of after ≡ nodes_of passed)
@@ -292,3 +287,28 @@ shows_them_all {k = k} {last = last} rerooted none few shows = shows_all shows.i
   | inl below ↦ below
   | inr past ↦ absurd (none-some image (sym (none_now rerooted number (none number (omega (arith, past, few)))) ∙ at))
 ])
+
+-- ---- where keys stay
+
+-- a move between values of one key leaves the image, and asks for no page
+pub entry_stays : {listing : Listing} {number : ℕ} (change : TupleChange) {image : ImageEntry} {relation : RelationEntry} (listed : IsListedImage listing number image relation) → IsImageOf listing number change.number
+    → {key : KeyKinds} → key ≡ key_of image relation → AreValuesOf relation.fields (told_by change) → {was next : Option (Bor (List ℕ))} → Lends (told_by change) was next → KeepsKeys listing (told_by change)
+    → {before after : Image} {old new : PagesView}
+    → ((values others : Option (List Value)) → AreSpelled key.fields (option_copied was) values → AreSpelled key.fields (option_copied next) others → IsOneKey key values others → StaysEntry before after old new) → StaysEntry before after old new
+entry_stays {number = number} change {image = image} {relation = relation} listed of {key = key} is are {was = was} {next = next} lends keeps stays =
+    let had = has_values key.fields (option_copied was) (was_given change image relation is are was lends.before) in
+    let has = has_values key.fields (option_copied next) (next_given change image relation is are next lends.after) in
+    let its : image.relation ≡ number_told (told_by change) = ap (λ (e : ImageEntry). e.relation) (same_Some _ _ (sym listed.at ∙ of.at)) ∙ of.of ∙ sym (number_lent change) in
+    stays had.values has.values had.are has.are
+    (subst (λ (k : KeyKinds). IsOneKey k had.values has.values) (sym is)
+    (keeps.each number image relation listed its had.values has.values (told_so was lends.before had.values had.are) (told_so next lends.after has.values has.are)))
+  where
+    told_so : {bytes : Option (List ℕ)} (lent : Option (Bor (List ℕ))) → bytes ≡ values_lent lent → (values : Option (List Value)) → AreSpelled key.fields (option_copied lent) values → AreSpelled (kinds relation.fields) bytes values
+    told_so lent same values spelled =
+        subst (λ (b : Option (List ℕ)). AreSpelled (kinds relation.fields) b values) (sym same) (subst (λ (k : KeyKinds). AreSpelled k.fields (option_copied lent) values) is spelled)
+
+-- one step more
+pub stays_then : {old mid new : AccessView} {change : told.Change} → StaysAsItWas old mid → KeepsKeys old.catalog.listing change → (KeepsKeys mid.catalog.listing change → StaysAsItWas mid new) → StaysAsItWas old new
+stays_then {change = change} first keeps more =
+    let then = more (subst (λ (c : CatalogView). KeepsKeys c.listing change) (sym first.catalog) keeps) in
+    record { pages = steps first.pages then.pages; catalog = then.catalog ∙ first.catalog }

@@ -1,12 +1,12 @@
 -- An image was listed, and its tree built of the entries of its relation's tuples: the pages spell the tables with it.
-use Rattle.std.proofs.Common.{◌≡◌, ◌≢◌, ◌+◌, ◌-◌, ◌<◌, ◌≤◌, ◌⊎◌, inl, inr, ⊎_elim, ℕ, true, Bool, List, [], ◌∷◌, length, get_or, refl, sym, ◌∙◌, ap, subst, arith}
+use Rattle.std.proofs.Common.{◌≡◌, ◌≢◌, ◌-◌, ◌<◌, ◌≤◌, ◌⊎◌, inl, inr, ⊎_elim, ℕ, true, Bool, List, [], ◌∷◌, length, get_or, refl, sym, ◌∙◌, ap, subst, arith}
 use Rattle.std.specs.Prelude.{Option, Some, None, All, is_some, slice_set}
 use Rattle.std.specs.FinMap as map
 use Rattle.std.proofs.lemmas.List.{set-set}
 use Rattle.std.proofs.lemmas.Option.{none-some, same_Some}
 use Rattle.rss_base.specs.DiskRule.{IsTold}
 use Rattle.rss_base.specs.Nodes.{Node}
-use Rattle.rss_base.specs.Paged.{Held, mapped_of, page_key}
+use Rattle.rss_base.specs.Paged.{Held, page_key}
 use Rattle.rss_base.specs.Sizes.{images_most, system_pages}
 use Rattle.rss_base.specs.Steps.{PagesView, PagesStep, no_page, pages_in}
 use Rattle.rss_base.specs.Trees.{IsNodeAt}
@@ -22,12 +22,11 @@ use Rattle.rss_base.proofs.Steps.{all_held}
 use Rattle.rss_value.specs.Numbers.{IsNumberOf}
 use Rattle.rss_levels.specs.Entries.{Each, IsIn}
 use Rattle.rss_node.specs.Nodes.{AreNodes}
-use Rattle.rss_image.specs.Images.{Becomes, has_page, nodes_of as image_nodes, pages_of, page_bound}
+use Rattle.rss_image.specs.Images.{Becomes, has_page, nodes_of as image_nodes, pages_of}
 use Rattle.rss_image.specs.declared.image.Image.{Image}
-use Rattle.rss_image.proofs.Halves.{many}
 use Rattle.rss_image.proofs.Kept.{page_pair}
 use Rattle.rss_image.proofs.Laid.{zeros_page}
-use Rattle.rss_image.proofs.Putting.{few_pages, spell_one}
+use Rattle.rss_image.proofs.Putting.{spell_one}
 use Rattle.rss_tuple.specs.Directory.{bodies_of}
 use Rattle.rss_catalog.specs.Catalogs.{CatalogView, Lists, page_of}
 use Rattle.rss_model.specs.Tables.{Tables}
@@ -42,18 +41,18 @@ use Rattle.rss_entries.specs.Rooms.{width_of}
 use Rattle.rss_entries.proofs.Entries.{length-key}
 use Rattle.rss_entries.proofs.Fitting.{fitting_nodes}
 use Rattle.rss_entries.proofs.Kept.{HoldsNode, image_node}
-use Rattle.rss_entries.proofs.NewImage.{HaveSpelledTids, TouchesImages, holds_new_image, segment_kept, new_image_counted}
+use Rattle.rss_entries.proofs.NewImage.{HaveSpelledTids, TouchesImages, holds_new_image, segment_kept}
 use Rattle.rss_entries.proofs.Orders.{each_of_in}
 use Rattle.rss_entries.proofs.Showing.{same_entry, at_same}
 use Rattle.rss_entries.proofs.Shown.{Shows, IsSpelledTuple, byte_list, key_fits, pair_is, tuple_pair}
 use Rattle.rss_entries.proofs.Standing.{IsRowed, contained, low_cells, rowed}
-use Rattle.rss_access.specs.Changes.{AccessView, CanAlter, HasTables, both}
+use Rattle.rss_access.specs.Changes.{AccessView, HasTables, both}
 use Rattle.rss_access.specs.Checking.{ShowsTuples}
 use Rattle.rss_access.specs.Filling.{AreEntries}
 use Rattle.rss_access.specs.Trees.{BuildsTree, FillsImage}
-use Rattle.rss_access.specs.Written.{AreWritten, heap_now}
+use Rattle.rss_access.specs.Written.{AreWritten}
 use Rattle.rss_access.proofs.Checked.{all_spelled}
-use Rattle.rss_access.proofs.ImageTouched.{AreLawful, are_low, touches, heap_stays, system_stays, one_owner, written_beside, spelled_shown, tables_imaged, can_imaged}
+use Rattle.rss_access.proofs.ImageTouched.{AreLawful, are_low, touches, system_stays, one_owner, written_beside, spelled_shown, tables_imaged}
 use Rattle.rss_access.proofs.NodesWithin.{nodes_below}
 use Rattle.rss_access.proofs.RelationEntries.{shown, kept_bytes}
 
@@ -137,17 +136,6 @@ module _ {old : AccessView} {listed : CatalogView} {new : AccessView} {number : 
     -- the pages of the catalog
     pub filled_written : IsTold old.pages.disk → length old.catalog.pending ≡ system_pages → AreWritten old.pages.held old.catalog → AreWritten new.pages.held new.catalog
     filled_written told places written = written_beside number (Some entry_now) filled_lists filled.high places old.pages.held new.pages.held (system_stays filled.step told) written
-
-    -- ---- how many pages there are
-
-    pub filled_images : IsTold old.pages.disk → mapped_of new.pages.mapped ImageSpace new.pages.slots ≤ mapped_of old.pages.mapped ImageSpace old.pages.slots + page_bound (width_of entry relation) (length pairs)
-    filled_images told =
-        let built = (builds told).becomes in
-        let few = few_pages image new.pages.held (many (width_of entry relation) nodes_fit.narrow) pairs built.tree in
-        omega (arith, few, new_image_counted old.pages new.pages filled.step filled.before.counted filled.after.counted built)
-
-  pub filled_heap : heap_now new.pages ≡ heap_now old.pages
-  filled_heap = heap_stays filled.step
 
   -- ---- the tables
 
@@ -282,16 +270,11 @@ module _ {old : AccessView} {listed : CatalogView} {new : AccessView} {number : 
         tables_imaged (map.insert has.tables.definitions.images entry.name (image_definition entry relation)) filled.step.passes.slots has (filled_shows has.spells shows)
         (filled_nodes told has.spells (all_spelled filled.before.small shows) (bytes has.tables shows) (pairs_good shows) has.nodes)
 
-  -- The pages may be changed on.
-  pub filled_can : (IsTold old.pages.disk → AreBytes old entry relation pairs) → CanAlter old → CanAlter new
-  filled_can bytes can = can_imaged filled.step (λ told. filled_tables told (bytes told)) can
-
 -- ---- entries that were gathered
 
 -- after a search they are those that they were
 pub entries_still : {asks outs : ℕ} {old new : PagesView} (catalog : CatalogView) (number : ℕ) (relation : RelationEntry) (which : List ℕ) (entries : List (List ℕ × Tid)) → PagesStep no_page asks outs old new → IsTold old.disk → AreEntries (both old catalog) number relation which entries → AreEntries (both new catalog) number relation which entries
 entries_still {old = old} {new = new} catalog number relation which entries step told are tables other shows = are tables other (record {
-  no_links = shows.no_links;
   listed = shows.listed;
   defines = shows.defines;
   counts = shows.counts;

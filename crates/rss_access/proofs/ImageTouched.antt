@@ -1,5 +1,5 @@
 -- Image pages of one segment alone are touched: what that leaves of tuples, of counts and of the catalog's pages.
-use Rattle.std.proofs.Common.{◌≡◌, ◌≢◌, ◌+◌, ◌-◌, ◌<◌, ◌≤◌, ◌^◌, ℕ, true, false, Bool, List, length, get_or, sym, ◌∙◌, ap, subst, arith}
+use Rattle.std.proofs.Common.{◌≡◌, ◌≢◌, ◌+◌, ◌<◌, ◌≤◌, ◌^◌, ℕ, true, false, Bool, List, length, get_or, sym, ◌∙◌, ap, subst, arith}
 use Rattle.std.specs.Prelude.{Option, Some, is_some, slice_set}
 use Rattle.std.specs.FinMap as map
 use Rattle.std.proofs.lemmas.List.{get_or-set_same, get_or-set_other}
@@ -109,7 +109,6 @@ spelled_shown spells tuples tids = record {
   contents = spells.contents;
   tuples = tuples;
   tids = tids;
-  no_links = spells.no_links;
 }
 
 -- the tables with other images
@@ -128,6 +127,12 @@ tables_imaged {old = old} {new = new} images slots has spells nodes = record {
       let id = has.tids name tid live in
       record { page = omega (arith, id.page, slots); slot = id.slot };
   few = has.few;
+  links = record {
+    chains = λ link parent held at.
+        let of = has.links.chains link parent held at in
+        record { definition = of.definition; tids = of.tids; defined = of.defined; is = of.is; some = of.some; members = of.members; once = of.once; under = of.under };
+    alone = has.links.alone;
+  };
   nodes = nodes;
 }
 

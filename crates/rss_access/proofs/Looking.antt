@@ -25,9 +25,9 @@ use Rattle.rss_entries.specs.Seeking.{ShowsImage, AreSingle}
 use Rattle.rss_entries.proofs.Telling.{has_shown}
 use Rattle.rss_access.specs.Changes.{AccessView, HasTables}
 use Rattle.rss_access.specs.Imaging.{ListsImage, IsKeyLong}
+use Rattle.rss_access.proofs.Bodied.{values_storable}
 use Rattle.rss_access.proofs.Heaped.{heaps_alike}
 use Rattle.rss_access.proofs.ImageKeys.{width_is}
-use Rattle.rss_access.proofs.Spelling.{all_storable}
 
 -- ---- images of tables
 
@@ -41,7 +41,7 @@ module _ (view : PagesView) {listing : Listing} {tables : Tables} (spells : Spel
         fits = spells.listed;
         defines = spells.defines;
         tuples = tuples;
-        storable = all_storable spells;
+        storable = values_storable spells.contents;
         tids = λ name tid there. let id = tids name tid there in record { page = omega (arith, id.page, small); slot = omega (arith, id.slot) };
         pages = each.0;
         spells = each.1;

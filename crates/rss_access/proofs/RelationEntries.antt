@@ -8,7 +8,7 @@ use Rattle.std.specs.declared.cmp.Ordering.TheVariants.{Less}
 use Rattle.std.proofs.lemmas.List.{length-map}
 use Rattle.std.proofs.lemmas.Option.{same_Some}
 use Rattle.rss_base.specs.Trees.{Pair, tid_cmp}
-use Rattle.rss_base.specs.TupleTypes.{kinds, chosen, misfit, field_names, key_bytes, values_cmp, Spells, IsKeyOf}
+use Rattle.rss_base.specs.TupleTypes.{kinds, chosen, misfit, field_names, key_bytes, tuple_bytes, values_cmp, Spells, IsKeyOf}
 use Rattle.rss_base.specs.Listings.{relation_at, field_numbers}
 use Rattle.rss_base.specs.declared.name.Name.{Name}
 use Rattle.rss_base.specs.declared.tid.Tid.{Tid}
@@ -35,6 +35,7 @@ use Rattle.rss_entries.specs.Keyed.{key_with}
 use Rattle.rss_entries.specs.Seeking.{kinds_in, kept_pair}
 use Rattle.rss_entries.proofs.Orders.{in_map, of_map, map_rises}
 use Rattle.rss_entries.proofs.Shown.{Shows, byte_list, IsSpelledTuple, Precedes, entries_rise, entry_with, key_fits, tuple_of as entry_tuple}
+use Rattle.rss_access.specs.Bodies.{HoldsBytes}
 use Rattle.rss_access.specs.Changes.{AccessView}
 use Rattle.rss_access.specs.Checking.{ShowsTuples}
 use Rattle.rss_access.specs.Filling.{keys_by, entry_order, repeated_key, repeated_behind}
@@ -70,17 +71,18 @@ module _ {at : AccessView} (small : at.pages.slots < 2 ^ 32) {tables : Tables} (
         spelled = all_spelled small shows relation.name tid (ap is_some there);
       }
 
-  -- The bytes are those of the values of a tuple.
-  pub record IsTupleOf (tid : Tid) (bytes : List ℕ) : Type 0 where
+  -- The body that has this behind the relation's number is that of a tuple with these values.
+  pub record IsTupleOf (tid : Tid) (rest : List ℕ) : Type 0 where
     pub values : List Value
-    pub spells : Spells (kinds relation.fields) bytes values
+    pub bytes : HoldsBytes at.catalog.listing number (number ∷ rest) (tuple_bytes values)
+    pub spells : Spells (kinds relation.fields) (tuple_bytes values) values
     pub there : content tables.contents (TupleItem relation.name tid) ≡ Some (Values values)
 
   -- each body of the relation is a tuple's
-  pub body_tuple : (tid : Tid) (bytes : List ℕ) → body_at at.pages relation.segment tid ≡ Some (number ∷ bytes) → IsTupleOf tid bytes
-  body_tuple tid bytes stands =
-      let of = tuple_of small shows number relation its tid bytes stands in
-      record { values = of.values; spells = record { fit = (spelled_tuple tid of.values of.holds).fit; storable = of.storable; same = of.same }; there = of.holds }
+  pub body_tuple : (tid : Tid) (rest : List ℕ) → body_at at.pages relation.segment tid ≡ Some (number ∷ rest) → IsTupleOf tid rest
+  body_tuple tid rest stands =
+      let of = tuple_of small shows number relation its tid rest stands in
+      record { values = of.values; bytes = of.bytes; spells = record { fit = (spelled_tuple tid of.values of.holds).fit; storable = of.storable; same = refl }; there = of.holds }
 
   -- ---- as many as are counted
 

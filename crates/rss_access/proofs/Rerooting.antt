@@ -150,6 +150,7 @@ module _ {number live : ℕ} {relation : RelationEntry} {old new : CatalogView} 
   recounts_by = record {
     live = live;
     segments = counted.segments;
+    links = counted.links;
     here = ap (λ (l : List (Option RelationEntry)). numbered l number) counted.relations ∙ counted_here old.listing number live relation at;
     others = λ k other. ap (λ (l : List (Option RelationEntry)). numbered l k) counted.relations ∙ counted_else old.listing number live relation at k other;
   }

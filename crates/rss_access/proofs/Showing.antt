@@ -1,8 +1,8 @@
 -- Tables that the pages spell, and the change of their tuple that a record tells: it can be made, and leaves tables of such a kind.
-use Rattle.std.proofs.Common.{◌≡◌, inl, inr, ℕ, ◌^◌, ◌≤◌, List, ◌∷◌, refl, sym, ◌∙◌, ap, subst, arith, ◌<◌}
+use Rattle.std.proofs.Common.{◌≡◌, inl, inr, ℕ, ◌^◌, ◌≤◌, List, refl, sym, ◌∙◌, ap, subst, arith, ◌<◌}
 use Rattle.std.specs.Prelude.{Option, Some, None, option_map, All, IfSome}
 use Rattle.std.proofs.lemmas.Option.{none-some, same_Some}
-use Rattle.rss_base.specs.TupleTypes.{kinds, misfit, IsStorable}
+use Rattle.rss_base.specs.TupleTypes.{kinds, misfit, tuple_bytes, IsStorable}
 use Rattle.rss_base.specs.Listings.{relation_at}
 use Rattle.rss_base.specs.declared.name.Name.{Name}
 use Rattle.rss_base.specs.declared.tid.Tid.{Tid}
@@ -12,16 +12,20 @@ use Rattle.rss_base.specs.declared.value.Value.{Value}
 use Rattle.rss_base.specs.declared.relation.RelationEntry.{RelationEntry}
 use Rattle.rss_base.specs.declared.change.Change as told
 use Rattle.rss_base.specs.declared.change.Change.TheVariants.{Insert, Delete, Update, Connect, Disconnect}
+use Rattle.rss_tuple.specs.Directory.{bodies_of}
 use Rattle.rss_entries.specs.Images.{AreTuples, TupleMove, CanMove, after_move}
 use Rattle.rss_model.specs.Items.{Values}
 use Rattle.rss_model.specs.Tables.{content}
 use Rattle.rss_model.specs.Fits.{IsTupleOf}
-use Rattle.rss_model.specs.Store.{plain_body as body_of}
+use Rattle.rss_model.specs.Chains.{LinksFit}
 use Rattle.rss_model.proofs.Contents.{content_here, content_elsewhere}
 use Rattle.rss_model.proofs.Putting.{same_parts}
-use Rattle.rss_access.specs.Changes.{number_told, tid_told, body_before, body_after, count_after, AreValuesOf, MayBecome, MayCount, AccessView, HasTables}
+use Rattle.rss_members.specs.Members.{SpellsMembers}
+use Rattle.rss_access.specs.Told.{number_told, tid_told, values_before, values_after, body_before, IsPrefix, count_after, AreValuesOf, MayBecome, MayCount}
+use Rattle.rss_access.specs.Changes.{AccessView, HasTables}
 use Rattle.rss_access.specs.Tuples.{body_at}
 use Rattle.rss_access.proofs.Numbered.{fields_listed}
+use Rattle.rss_access.proofs.Prefixed.{members_by, spelled_with, bodies_told, links_told}
 use Rattle.rss_access.proofs.Recounting.{same_or_other}
 use Rattle.rss_access.proofs.Spelling.{none_listed, tuple_found, all_storable}
 
@@ -35,8 +39,8 @@ AreOf fields values = IfSome values (λ list. (misfit (kinds fields) list ≡ No
 pub record HasMove (fields : List FieldDef) (told_change : told.Change) : Type 0 where
   pub was : Option (List Value)
   pub next : Option (List Value)
-  pub before : body_before told_change ≡ option_map (body_of (number_told told_change)) was
-  pub after : body_after told_change ≡ option_map (body_of (number_told told_change)) next
+  pub before : values_before told_change ≡ option_map tuple_bytes was
+  pub after : values_after told_change ≡ option_map tuple_bytes next
   pub old : AreOf fields was
   pub new : AreOf fields next
 
@@ -45,14 +49,14 @@ has_move fields (Insert number tid bytes) (values, spells) = record {
   was = None;
   next = Some values;
   before = refl;
-  after = ap (λ (b : List ℕ). Some (number ∷ b)) spells.same;
+  after = ap Some spells.same;
   old = tt;
   new = (spells.fit, spells.storable);
 }
 has_move fields (Delete number tid bytes) (values, spells) = record {
   was = Some values;
   next = None;
-  before = ap (λ (b : List ℕ). Some (number ∷ b)) spells.same;
+  before = ap Some spells.same;
   after = refl;
   old = (spells.fit, spells.storable);
   new = tt;
@@ -60,8 +64,8 @@ has_move fields (Delete number tid bytes) (values, spells) = record {
 has_move fields (Update number tid from to) ((old, spells_old), (new, spells_new)) = record {
   was = Some old;
   next = Some new;
-  before = ap (λ (b : List ℕ). Some (number ∷ b)) spells_old.same;
-  after = ap (λ (b : List ℕ). Some (number ∷ b)) spells_new.same;
+  before = ap Some spells_old.same;
+  after = ap Some spells_new.same;
   old = (spells_old.fit, spells_old.storable);
   new = (spells_new.fit, spells_new.storable);
 }
@@ -86,7 +90,7 @@ few_after (Disconnect link parent child left) live may few = few
 
 -- ---- the tables
 
-module _ {at : AccessView} (told_change : told.Change) (relation : RelationEntry) (listed : relation_at at.catalog.listing (number_told told_change) ≡ Some relation) (found : body_at at.pages relation.segment (tid_told told_change) ≡ body_before told_change) (may : MayBecome at.pages.slots relation.fields told_change) (small : at.pages.slots < 2 ^ 32) (has : HasTables at) where
+module _ {at : AccessView} (told_change : told.Change) (relation : RelationEntry) (listed : relation_at at.catalog.listing (number_told told_change) ≡ Some relation) {prefix : List ℕ} (fitting : IsPrefix at.catalog.listing told_change prefix) (found : body_at at.pages relation.segment (tid_told told_change) ≡ body_before prefix told_change) (may : MayBecome at.pages.slots at.catalog.listing relation.fields told_change) (small : at.pages.slots < 2 ^ 32) (has : HasTables at) where
   abbrev number : ℕ
   number = number_told told_change
 
@@ -98,11 +102,11 @@ module _ {at : AccessView} (told_change : told.Change) (relation : RelationEntry
 
   -- the tuple holds the old values in the tables
   holds : content has.tables.contents (TupleItem relation.name tid) ≡ option_map Values told_move.was
-  holds = by told_move.was (found ∙ told_move.before) told_move.old
+  holds = by told_move.was (found ∙ bodies_told number prefix (values_before told_change) told_move.was told_move.before) told_move.old
     where
-      by : (was : Option (List Value)) → body_at at.pages relation.segment tid ≡ option_map (body_of number) was → AreOf relation.fields was → content has.tables.contents (TupleItem relation.name tid) ≡ option_map Values was
+      by : (was : Option (List Value)) → body_at at.pages relation.segment tid ≡ option_map (spelled_with number prefix) was → AreOf relation.fields was → content has.tables.contents (TupleItem relation.name tid) ≡ option_map Values was
       by None absent are = none_listed has.spells has.tuples number relation listed tid absent
-      by (Some list) stands are = tuple_found at.pages has.spells has.tuples number relation listed tid (body_of number list) stands list (record { rest = _; is = refl; spelled = record { fit = are.0; storable = are.1; same = refl } })
+      by (Some list) stands are = tuple_found at.pages has.spells has.tuples number relation listed tid (spelled_with number prefix list) stands list (record { bytes = tuple_bytes list; holds = record { prefix = prefix; long = fitting.long; is = refl }; spelled = record { fit = are.0; storable = are.1; same = refl } })
 
   abbrev pub move : TupleMove
   move = record { number = number; relation = relation; tid = tid; was = told_move.was; next = told_move.next }
@@ -123,6 +127,14 @@ module _ {at : AccessView} (told_change : told.Change) (relation : RelationEntry
     next_storable = storable_of relation.fields told_move.next told_move.new;
     few = λ k entry there. omega (arith, has.few entry.name, has.spells.counts k entry there);
   }
+
+  -- the tables, as far as tuples and chains go
+  members_are : SpellsMembers at.catalog.listing (bodies_of at.pages.held) has.tables
+  members_are = members_by small has.spells has.tuples has.links has.tids
+
+  -- links fit still
+  pub links_after : LinksFit (after_move move has.tables)
+  links_after = links_told members_are told_change relation listed told_move.was holds told_move.before fitting found told_move.next told_move.after
 
   -- and leaves tuples of their relations
   pub tuples_after : AreTuples (after_move move has.tables)

@@ -1,14 +1,15 @@
 -- What a look at the pages of a tuple store finds, by the tables that they spell.
-use Rattle.std.proofs.Common.{◌≡◌, ◌⊎◌, inl, inr, ℕ, true, false, List, ◌∷◌, refl, sym, ◌∙◌, ap, subst}
+use Rattle.std.proofs.Common.{◌≡◌, ◌⊎◌, inl, inr, ℕ, true, false, List, ◌∷◌, ◌++◌, refl, sym, ◌∙◌, ap, subst}
 use Rattle.std.specs.Prelude.{Option, Some, None, is_some, option_map, All}
 use Rattle.std.proofs.lemmas.Option.{none-some, same_Some}
 use Rattle.rss_base.specs.Paged.{Held}
 use Rattle.rss_base.specs.Steps.{PagesView}
 use Rattle.rss_base.specs.TupleTypes.{kinds, misfit, tuple_bytes, IsStorable}
 use Rattle.rss_base.specs.Listings.{Listing, segment_at, relation_at}
+use Rattle.rss_base.specs.Prefixes.{prefix_size}
 use Rattle.rss_base.specs.declared.name.Name.{Name}
 use Rattle.rss_base.specs.declared.tid.Tid.{Tid}
-use Rattle.rss_base.specs.declared.item.Item.TheVariants.{Tuple as TupleItem}
+use Rattle.rss_base.specs.declared.item.Item.TheVariants.{Tuple as TupleItem, Chain as ChainItem}
 use Rattle.rss_base.specs.declared.relation.RelationEntry.{RelationEntry}
 use Rattle.rss_base.specs.declared.value.Value.{Value}
 use Rattle.rss_base.specs.declared.value.FieldKind.{FieldKind}
@@ -17,13 +18,15 @@ use Rattle.rss_entries.specs.Images.{AreTuples}
 use Rattle.rss_model.specs.Items.{Content, Values}
 use Rattle.rss_model.specs.Tables.{RelationDef, Tables, content, segment_of}
 use Rattle.rss_model.specs.Fits.{Fits}
-use Rattle.rss_model.specs.Store.{SpellsTables, plain_body as body_of}
-use Rattle.rss_model.proofs.PlainStores.{contents_spelled}
+use Rattle.rss_model.specs.Store.{SpellsTables, prefix_of, body_of}
+use Rattle.rss_model.proofs.Blocks.{prefix_long}
 use Rattle.rss_model.proofs.Frees.{stands_defined}
 use Rattle.rss_model.proofs.Listed.{listed, number_within}
 use Rattle.rss_model.proofs.Spelled.{tuple_bytes_same, named_relation}
 use Rattle.rss_access.specs.Bodies.{IsBodyOf}
 use Rattle.rss_access.specs.Tuples.{body_at, FindsBody}
+use Rattle.rss_access.proofs.Bodied.{one_bytes}
+use Rattle.rss_access.proofs.Prefixed.{first_same}
 
 -- ---- identifiers
 
@@ -37,20 +40,23 @@ module _ {held : Held} {listing : Listing} {tables : Tables} (spells : SpellsTab
   pub none_listed : AreTuples tables → (k : ℕ) (entry : RelationEntry) → relation_at listing k ≡ Some entry → (tid : Tid) → bodies_of held entry.segment tid ≡ None → content tables.contents (TupleItem entry.name tid) ≡ None
   none_listed tuples k entry at tid absent = elim (tuple_held tuples entry.name tid (content tables.contents (TupleItem entry.name tid)) refl) [
     | inl none ↦ none
-    | inr some ↦ absurd (none-some _ (sym absent ∙ (contents_spelled spells).stands k entry tid some.0 at some.1))
+    | inr some ↦ absurd (none-some _ (sym absent ∙ spells.contents.stands k entry tid some.0 at some.1))
   ]
 
   -- the values of each tuple can be stored
   pub all_storable : (relation : Name) (tid : Tid) (values : List Value) → content tables.contents (TupleItem relation tid) ≡ Some (Values values) → All IsStorable values
   all_storable relation tid values holds =
-      let on = (contents_spelled spells).only (TupleItem relation tid) (ap is_some holds) in
-      let mine : content tables.contents (TupleItem on.relation.name on.tid) ≡ Some (Values values) = ap (content tables.contents) (sym on.is) ∙ holds in
-      let of = (contents_spelled spells).bodies_are on.relation.segment on.tid (body_of on.number values) ((contents_spelled spells).stands on.number on.relation on.tid values on.at mine) in
-      let one : of.relation ≡ on.relation = same_Some _ _ (sym of.at ∙ ap (relation_at listing) (sym (first_same on.number of.number _ _ of.is)) ∙ on.at) in
-      subst (All IsStorable) (values_same of.values values (sym of.holds ∙ ap (λ (r : RelationEntry). content tables.contents (TupleItem r.name on.tid)) one ∙ mine)) of.storable
+      elim (spells.contents.only (TupleItem relation tid) (ap is_some holds)) [
+        | inl on ↦
+            let mine : content tables.contents (TupleItem on.relation.name on.tid) ≡ Some (Values values) = ap (content tables.contents) (sym on.is) ∙ holds in
+            let of = spells.contents.bodies_are on.relation.segment on.tid (body_of listing tables.contents on.number on.tid values) (spells.contents.stands on.number on.relation on.tid values on.at mine) in
+            let one : of.relation ≡ on.relation = same_Some _ _ (sym of.at ∙ ap (relation_at listing) (sym (first_same on.number of.number _ _ of.is)) ∙ on.at) in
+            subst (All IsStorable) (values_same of.values values (sym of.holds ∙ ap (λ (r : RelationEntry). content tables.contents (TupleItem r.name on.tid)) one ∙ mine)) of.storable
+        | inr on ↦ absurd (no_chain on.link.name on.parent on.is)
+      ]
     where
-      first_same : (k j : ℕ) (x y : List Value) → body_of k x ≡ body_of j y → k ≡ j
-      first_same k j x y same = cc
+      no_chain : (link : Name) (parent : Option Tid) → TupleItem relation tid ≡ ChainItem link parent → ⊥
+      no_chain link parent is = absurd (cc)
 
       values_same : (a b : List Value) → ◌≡◌ {A = Option Content} (Some (Values a)) (Some (Values b)) → a ≡ b
       values_same a b same = cc
@@ -79,23 +85,31 @@ module _ {held : Held} {listing : Listing} {tables : Tables} (spells : SpellsTab
       same_values a b same = cc
 
 -- a body that was found is that of a tuple of the relation with these values
-pub record HasValues (pages : PagesView) (tables : Tables) (number : ℕ) (relation : RelationEntry) (tid : Tid) (bytes : List ℕ) : Type 0 where
+pub record HasValues (pages : PagesView) (listing : Listing) (tables : Tables) (number : ℕ) (relation : RelationEntry) (tid : Tid) (bytes : List ℕ) : Type 0 where
   pub values : List Value
-  pub body : IsBodyOf number (kinds relation.fields) values bytes
+  pub body : IsBodyOf listing number (kinds relation.fields) values bytes
   pub stands : body_at pages relation.segment tid ≡ Some bytes
   pub holds : content tables.contents (TupleItem relation.name tid) ≡ Some (Values values)
 
 module _ (pages : PagesView) {listing : Listing} {tables : Tables} (spells : SpellsTables pages.held listing tables) (tuples : AreTuples tables) (number : ℕ) (relation : RelationEntry) (at : relation_at listing number ≡ Some relation) (tid : Tid) (bytes : List ℕ) where
   -- the values of a body of the relation
-  values_found : (rest : List ℕ) → bytes ≡ number ∷ rest → body_at pages relation.segment tid ≡ Some bytes → HasValues pages tables number relation tid bytes
+  values_found : (rest : List ℕ) → bytes ≡ number ∷ rest → body_at pages relation.segment tid ≡ Some bytes → HasValues pages listing tables number relation tid bytes
   values_found rest is stands =
-      let of = (contents_spelled spells).bodies_are relation.segment tid bytes stands in
-      let parts = parts_of number of.number rest (tuple_bytes of.values) (sym is ∙ of.is) in
+      let of = spells.contents.bodies_are relation.segment tid bytes stands in
+      let parts = parts_of number of.number rest (prefix_of listing tables.contents of.number tid ++ tuple_bytes of.values) (sym is ∙ of.is) in
       let one : of.relation ≡ relation = same_Some _ _ (sym of.at ∙ ap (relation_at listing) (sym parts.0) ∙ at) in
       let holds : content tables.contents (TupleItem relation.name tid) ≡ Some (Values of.values) = ap (λ (r : RelationEntry). content tables.contents (TupleItem r.name tid)) (sym one) ∙ of.holds in
       record {
         values = of.values;
-        body = record { rest = rest; is = is; spelled = record { fit = fits_fields spells tuples number relation at tid of.values holds; storable = of.storable; same = parts.1 } };
+        body = record {
+          bytes = tuple_bytes of.values;
+          holds = record {
+            prefix = prefix_of listing tables.contents of.number tid;
+            long = prefix_long listing tables.contents of.number tid ∙ ap (prefix_size listing.links) (sym parts.0);
+            is = is ∙ ap (λ (b : List ℕ). number ∷ b) parts.1;
+          };
+          spelled = record { fit = fits_fields spells tuples number relation at tid of.values holds; storable = of.storable; same = refl };
+        };
         stands = stands;
         holds = holds;
       }
@@ -104,28 +118,20 @@ module _ (pages : PagesView) {listing : Listing} {tables : Tables} (spells : Spe
       parts_of k j x y same = (cc, cc)
 
   -- it is the tuple whose values are spelled there
-  pub tuple_found : body_at pages relation.segment tid ≡ Some bytes → (values : List Value) → IsBodyOf number (kinds relation.fields) values bytes → content tables.contents (TupleItem relation.name tid) ≡ Some (Values values)
+  pub tuple_found : body_at pages relation.segment tid ≡ Some bytes → (values : List Value) → IsBodyOf listing number (kinds relation.fields) values bytes → content tables.contents (TupleItem relation.name tid) ≡ Some (Values values)
   tuple_found stands values body =
-      let has = values_found body.rest body.is stands in
-      let rests : body.rest ≡ has.body.rest = tails number body.rest has.body.rest (sym body.is ∙ has.body.is) in
-      let bytes_same : tuple_bytes values ≡ tuple_bytes has.values = sym body.spelled.same ∙ rests ∙ has.body.spelled.same in
+      let has = values_found (body.holds.prefix ++ body.bytes) body.holds.is stands in
+      let bytes_same : tuple_bytes values ≡ tuple_bytes has.values = sym body.spelled.same ∙ one_bytes body.holds has.body.holds ∙ has.body.spelled.same in
       has.holds ∙ ap (λ (v : List Value). Some (Values v)) (sym (tuple_bytes_same 1 (kinds relation.fields) values has.values body.spelled.fit has.body.spelled.fit body.spelled.storable has.body.spelled.storable bytes_same))
-    where
-      tails : (k : ℕ) (x y : List ℕ) → k ∷ x ≡ k ∷ y → x ≡ y
-      tails k x y same = cc
 
 module _ {pages : PagesView} {listing : Listing} {tables : Tables} {slots : ℕ} (spells : SpellsTables pages.held listing tables) (fit : Fits slots tables) (number : ℕ) (relation : RelationEntry) (at : relation_at listing number ≡ Some relation) (tid : Tid) (bytes : List ℕ) where
   -- the tuple that was found: `tuple_of` can't answer `Ok None` of its body
-  pub found_values : FindsBody relation.segment number tid pages true bytes → HasValues pages tables number relation tid bytes
+  pub found_values : FindsBody relation.segment number tid pages true bytes → HasValues pages listing tables number relation tid bytes
   found_values finds = let found = finds.some refl in values_found pages spells fit.tuples number relation at tid bytes finds.rest found.0 found.1
-
-  -- and what `tuple_of` answers is what it holds
-  pub found_tuple : FindsBody relation.segment number tid pages true bytes → (values : List Value) → IsBodyOf number (kinds relation.fields) values bytes → content tables.contents (TupleItem relation.name tid) ≡ Some (Values values)
-  found_tuple finds values body = tuple_found pages spells fit.tuples number relation at tid bytes (finds.some refl).1 values body
 
   -- none was found
   pub found_none : FindsBody relation.segment number tid pages false bytes → content tables.contents (TupleItem relation.name tid) ≡ None
   found_none finds = elim (tuple_held fit.tuples relation.name tid (content tables.contents (TupleItem relation.name tid)) refl) [
     | inl none ↦ none
-    | inr some ↦ absurd (finds.none refl (tuple_bytes some.0) ((contents_spelled spells).stands number relation tid some.0 at some.1))
+    | inr some ↦ absurd (finds.none refl (prefix_of listing tables.contents number tid ++ tuple_bytes some.0) (spells.contents.stands number relation tid some.0 at some.1))
   ]

@@ -1,9 +1,10 @@
 -- What the record of a change of a tuple means, and its reverse.
-use Rattle.std.proofs.Common.{◌≡◌, ◌≢◌, ℕ, ◌+◌, ◌^◌, ◌≤◌, true, List, ◌∷◌, refl, sym, ◌∙◌, ap, subst, arith, ◌<◌}
+use Rattle.std.proofs.Common.{◌≡◌, ◌≢◌, ◌⊎◌, inl, inr, ℕ, ◌+◌, ◌^◌, ◌≤◌, true, false, ◌&&◌, List, refl, sym, ◌∙◌, ap, subst, arith, ◌<◌}
 use Rattle.std.specs.Prelude.{Option, Some, None, is_some, option_map, unwrap_or, All, IfSome}
+use Rattle.std.proofs.lemmas.Bool.{true≢false}
 use Rattle.std.proofs.lemmas.Option.{none-some, same_Some}
 use Rattle.rss_base.specs.DiskRule.{IsTold}
-use Rattle.rss_base.specs.TupleTypes.{kinds, misfit, IsStorable, SpellsSome}
+use Rattle.rss_base.specs.TupleTypes.{kinds, misfit, tuple_bytes, IsStorable, SpellsSome}
 use Rattle.rss_base.specs.Listings.{Listing, segment_at, relation_at}
 use Rattle.rss_base.specs.declared.name.Name.{Name}
 use Rattle.rss_base.specs.declared.tid.Tid.{Tid}
@@ -20,23 +21,29 @@ use Rattle.rss_model.specs.Tables.{Contents, Tables, content, put, tuple_count, 
 use Rattle.rss_model.specs.Changes.{Change}
 use Rattle.rss_model.specs.Fits.{IsLive, IsIdentifier, Fits}
 use Rattle.rss_model.specs.Meanings.{IsChangeTold, Means, TellsValues, name_at, nameless, item_told}
-use Rattle.rss_model.specs.Store.{plain_body as body_of, SpellsTables}
+use Rattle.rss_model.specs.Store.{SpellsTables, prefix_of}
+use Rattle.rss_model.proofs.Blocks.{prefix_long}
+use Rattle.rss_model.proofs.Prefixes.{HaveSameChains, chains_kept, prefix_same}
 use Rattle.rss_model.proofs.Codes.{name_total, name_apart}
 use Rattle.rss_model.proofs.Contents.{tied, content_here, content_elsewhere}
 use Rattle.rss_model.proofs.Counts.{one_if, counts_put}
 use Rattle.rss_model.proofs.Listed.{listed, stands_within}
-use Rattle.rss_model.proofs.PlainStores.{contents_spelled}
 use Rattle.rss_model.proofs.Putting.{same_parts}
 use Rattle.rss_model.proofs.Relisted.{number_of}
-use Rattle.rss_access.specs.Changes.{IsTupleRecord, number_told, tid_told, body_before, body_after, reversed, turned, ReverseMeans, AreValuesOf, MayBecome, MayCount, AccessView, HasRoom, CanApply, CanUndo, ShowsMove, Misfits, applied, HasTables, CanAlter}
-use Rattle.rss_access.specs.Changes.Misfits.{tuple as tuple_misfits, room as room_misfits, count as count_misfits, unlisted}
+use Rattle.rss_members.specs.declared.membership.Membership.{Membership}
+use Rattle.rss_members.specs.Calls.{NoneConnects, NoneDisconnects}
+use Rattle.rss_access.specs.Told.{IsTupleRecord, number_told, tid_told, values_before, values_after, body_before, IsPrefix, reversed, turned, ReverseMeans, AreValuesOf, MayBecome, MayCount}
+use Rattle.rss_access.specs.Changes.{AccessView, members, HasRoom, HasRoomFor, CanApply, CanUndo, ShowsMove, Misfits, applied, HasTables, CanAlter}
+use Rattle.rss_access.specs.Changes.Misfits.{tuple as tuple_misfits, room as room_misfits, count as count_misfits, unlisted, connect as connect_misfits, disconnect as disconnect_misfits}
 use Rattle.rss_access.specs.Tuples.{body_at}
+use Rattle.rss_access.proofs.ChainTables.{chain_none, chain_none_off}
+use Rattle.rss_access.proofs.Prefixed.{spelled_with, bodies_told, blank_gone, prefix_few}
 use Rattle.rss_access.proofs.Spelling.{all_storable}
 use Rattle.rss_access.proofs.Within.{nodes_within}
 
 -- ---- the change that is told
 
--- The change is one of a tuple of this relation: what it held, and what it holds afterwards, with the bodies of these.
+-- The change is one of a tuple of this relation: what it held, and what it holds afterwards, with the bytes of these.
 pub record Reads (listing : Listing) (told_change : told.Change) (change : Change) : Type 0 where
   pub relation : RelationEntry
   pub was : Option (List Value)
@@ -45,8 +52,8 @@ pub record Reads (listing : Listing) (told_change : told.Change) (change : Chang
   pub item : change.item ≡ TupleItem relation.name (tid_told told_change)
   pub old : change.old ≡ option_map Values was
   pub new : change.new ≡ option_map Values next
-  pub before : body_before told_change ≡ option_map (body_of (number_told told_change)) was
-  pub after : body_after told_change ≡ option_map (body_of (number_told told_change)) next
+  pub before : values_before told_change ≡ option_map tuple_bytes was
+  pub after : values_after told_change ≡ option_map tuple_bytes next
   pub fit : IfSome next (λ values. misfit (kinds relation.fields) values ≡ None)
   pub storable : IfSome next (All IsStorable)
   pub some : was ≡ None → next ≡ None → ⊥
@@ -58,8 +65,8 @@ named listing number relation at = ap (λ (name : Option Name). unwrap_or name (
 item_of : (listing : Listing) (number : ℕ) (tid : Tid) (relation : RelationEntry) {item : Item} → relation_at listing number ≡ Some relation → item ≡ TupleItem (name_at RelationKind listing number) tid → item ≡ TupleItem relation.name tid
 item_of listing number tid relation at is = is ∙ ap (λ (name : Name). TupleItem name tid) (named listing number relation at)
 
-body_is : {listing : Listing} {number : ℕ} {bytes : List ℕ} {held : Option Content} (tells : TellsValues listing number bytes held) → Some (number ∷ bytes) ≡ Some (body_of number tells.values)
-body_is {number = number} tells = ap (λ (b : List ℕ). Some (number ∷ b)) tells.spells.same
+bytes_are : {listing : Listing} {number : ℕ} {bytes : List ℕ} {held : Option Content} (tells : TellsValues listing number bytes held) → Some bytes ≡ Some (tuple_bytes tells.values)
+bytes_are tells = ap Some tells.spells.same
 
 -- the values fit the fields of the relation with this number
 fit_of : {listing : Listing} {number : ℕ} {bytes : List ℕ} {held : Option Content} (tells : TellsValues listing number bytes held) (relation : RelationEntry) → relation_at listing number ≡ Some relation → misfit (kinds relation.fields) tells.values ≡ None
@@ -68,14 +75,14 @@ fit_of tells relation at = subst (λ (entry : RelationEntry). misfit (kinds entr
 pub reads : {listing : Listing} (told_change : told.Change) (change : Change) → IsTupleRecord told_change → IsChangeTold listing change.by told_change change → Means listing told_change change → Reads listing told_change change
 reads {listing = listing} (Insert number tid values) change is tells means =
     let next = means.1 in
-    record { relation = next.relation; was = None; next = Some next.values; at = next.at; item = item_of listing number tid next.relation next.at tells.item; old = means.0; new = next.is; before = refl; after = body_is next; fit = next.spells.fit; storable = next.spells.storable; some = λ none never. absurd (cc) }
+    record { relation = next.relation; was = None; next = Some next.values; at = next.at; item = item_of listing number tid next.relation next.at tells.item; old = means.0; new = next.is; before = refl; after = bytes_are next; fit = next.spells.fit; storable = next.spells.storable; some = λ none never. absurd (cc) }
 reads {listing = listing} (Delete number tid values) change is tells means =
     let was = means.0 in
-    record { relation = was.relation; was = Some was.values; next = None; at = was.at; item = item_of listing number tid was.relation was.at tells.item; old = was.is; new = means.1; before = body_is was; after = refl; fit = tt; storable = tt; some = λ none never. absurd (cc) }
+    record { relation = was.relation; was = Some was.values; next = None; at = was.at; item = item_of listing number tid was.relation was.at tells.item; old = was.is; new = means.1; before = bytes_are was; after = refl; fit = tt; storable = tt; some = λ none never. absurd (cc) }
 reads {listing = listing} (Update number tid from to) change is tells means =
     let was = means.0 in
     let next = means.1 in
-    record { relation = was.relation; was = Some was.values; next = Some next.values; at = was.at; item = item_of listing number tid was.relation was.at tells.item; old = was.is; new = next.is; before = body_is was; after = body_is next; fit = fit_of next was.relation was.at; storable = next.spells.storable; some = λ none never. absurd (cc) }
+    record { relation = was.relation; was = Some was.values; next = Some next.values; at = was.at; item = item_of listing number tid was.relation was.at tells.item; old = was.is; new = next.is; before = bytes_are was; after = bytes_are next; fit = fit_of next was.relation was.at; storable = next.spells.storable; some = λ none never. absurd (cc) }
 reads (Connect link parent child left) change is tells means = absurd is
 reads (Disconnect link parent child left) change is tells means = absurd is
 
@@ -117,12 +124,20 @@ can_turned {at = at} {told_change = told_change} {change = change} can = record 
   fit_next = can.fit_next;
 }
 
-pub reversed_tuple : (told_change : told.Change) → IsTupleRecord told_change → IsTupleRecord (reversed told_change)
-reversed_tuple (Insert number tid values) is = is
-reversed_tuple (Delete number tid values) is = is
-reversed_tuple (Update number tid from to) is = is
-reversed_tuple (Connect link parent child left) is = is
-reversed_tuple (Disconnect link parent child left) is = is
+-- there is room for it turned round where there is for it
+pub reversed_room : (at : AccessView) (told_change : told.Change) → HasRoomFor at told_change → HasRoomFor at (reversed told_change)
+reversed_room at (Insert number tid values) room = room
+reversed_room at (Delete number tid values) room = room
+reversed_room at (Update number tid from to) room = room
+reversed_room at (Connect link parent child left) room = room
+reversed_room at (Disconnect link parent child left) room = room
+
+room_told : (at : AccessView) (told_change : told.Change) → IsTupleRecord told_change → HasRoomFor at told_change → HasRoom at (number_told told_change)
+room_told at (Insert number tid values) is room = room
+room_told at (Delete number tid values) is room = room
+room_told at (Update number tid from to) is room = room
+room_told at (Connect link parent child left) is room = absurd is
+room_told at (Disconnect link parent child left) is room = absurd is
 
 -- ---- where it can be applied
 
@@ -155,7 +170,7 @@ module _ {at : AccessView} {told_change : told.Change} {tables : Tables} {change
   none_stands : r.was ≡ None → (found : Option (List ℕ)) → body_at at.pages r.relation.segment (tid_told told_change) ≡ found → found ≡ None
   none_stands none None is = refl
   none_stands none (Some body) is =
-      let of = (contents_spelled can.spells).bodies_are r.relation.segment (tid_told told_change) body is in
+      let of = can.spells.contents.bodies_are r.relation.segment (tid_told told_change) body is in
       let so = listed can.spells.listed can.spells.defines (number_told told_change) r.relation r.at in
       let mine = stands_within tables can.spells.listed can.spells.defines (number_told told_change) r.relation r.at so.0 so.1.within in
       let its = stands_within tables can.spells.listed can.spells.defines of.number of.relation of.at so.0 (ap (segment_at at.catalog.listing) of.within ∙ so.1.within) in
@@ -167,13 +182,37 @@ module _ {at : AccessView} {told_change : told.Change} {tables : Tables} {change
       none_some : {c : Content} → None ≡ Some c → ⊥
       none_some is = absurd (cc)
 
+  -- what stands between the number and the values
+  abbrev prefix : List ℕ
+  prefix = prefix_of at.catalog.listing tables.contents (number_told told_change) (tid_told told_change)
+
   -- the tuple is as the change finds it
-  pub body_there : body_at at.pages r.relation.segment (tid_told told_change) ≡ body_before told_change
-  body_there = by r.was refl ∙ sym r.before
+  pub body_there : body_at at.pages r.relation.segment (tid_told told_change) ≡ body_before prefix told_change
+  body_there = by r.was refl ∙ sym (bodies_told (number_told told_change) prefix (values_before told_change) r.was r.before)
     where
-      by : (was : Option (List Value)) → r.was ≡ was → body_at at.pages r.relation.segment (tid_told told_change) ≡ option_map (body_of (number_told told_change)) r.was
-      by None is = none_stands is _ refl ∙ sym (ap (option_map (body_of (number_told told_change))) is)
-      by (Some values) is = (contents_spelled can.spells).stands (number_told told_change) r.relation (tid_told told_change) values r.at (holds_old ∙ ap (option_map Values) is) ∙ sym (ap (option_map (body_of (number_told told_change))) is)
+      by : (was : Option (List Value)) → r.was ≡ was → body_at at.pages r.relation.segment (tid_told told_change) ≡ option_map (spelled_with (number_told told_change) prefix) r.was
+      by None is = none_stands is _ refl ∙ sym (ap (option_map (spelled_with (number_told told_change) prefix)) is)
+      by (Some values) is = can.spells.contents.stands (number_told told_change) r.relation (tid_told told_change) values r.at (holds_old ∙ ap (option_map Values) is) ∙ sym (ap (option_map (spelled_with (number_told told_change) prefix)) is)
+
+  -- and these are the bytes between
+  pub prefix_there : IsPrefix at.catalog.listing told_change prefix
+  prefix_there = record {
+    long = prefix_long at.catalog.listing tables.contents (number_told told_change) (tid_told told_change);
+    blank = λ off. elim (one_none r.was r.next (values_before told_change) (values_after told_change) r.before r.after off) [
+      | inl none ↦ blank_gone can.spells.listed can.spells.defines can.fit.links (number_told told_change) r.at (tid_told told_change) (ap is_some holds_old ∙ ap (λ (w : Option (List Value)). is_some (option_map Values w)) none)
+      | inr none ↦
+          let gone = blank_gone {contents = next_contents} can.spells.listed can.spells.defines can.fit_next.links (number_told told_change) r.at (tid_told told_change) (ap is_some holds_new ∙ ap (λ (w : Option (List Value)). is_some (option_map Values w)) none) in
+          sym (prefix_same next_contents tables.contents same_chains at.catalog.listing (number_told told_change) (tid_told told_change)) ∙ gone
+    ];
+  }
+    where
+      same_chains : HaveSameChains next_contents tables.contents
+      same_chains = subst (λ (item : Item). HaveSameChains (put tables.contents item change.new) tables.contents) (sym r.item) (chains_kept tables.contents r.relation.name (tid_told told_change) change.new)
+
+      one_none : (was next : Option (List Value)) (old new : Option (List ℕ)) → old ≡ option_map tuple_bytes was → new ≡ option_map tuple_bytes next → (is_some old && is_some new) ≡ false → (was ≡ None) ⊎ (next ≡ None)
+      one_none None next old new before after off = inl refl
+      one_none (Some w) None old new before after off = inr refl
+      one_none (Some w) (Some n) old new before after off = absurd (true≢false ((λ i. is_some (sym before i) && is_some (sym after i)) ∙ off))
 
   counted : tuple_count tables.contents r.relation.name ≡ r.relation.live
   counted = can.spells.counts (number_told told_change) r.relation r.at
@@ -243,8 +282,8 @@ can_count (Update number tid from to) can r = tt
 can_count (Connect link parent child left) can r = tt
 can_count (Disconnect link parent child left) can r = tt
 
-pub can_become : {at : AccessView} (told_change : told.Change) {tables : Tables} {change : Change} → (can : CanApply at told_change tables change) (r : Reads at.catalog.listing told_change change) → MayBecome at.pages.slots r.relation.fields told_change
-can_become {at = at} told_change {tables = tables} {change = change} can r = record { named = named_by told_change can r; values = values_by told_change can.means r }
+pub can_become : {at : AccessView} (told_change : told.Change) {tables : Tables} {change : Change} → (can : CanApply at told_change tables change) (r : Reads at.catalog.listing told_change change) → MayBecome at.pages.slots at.catalog.listing r.relation.fields told_change
+can_become {at = at} told_change {tables = tables} {change = change} can r = record { named = named_by told_change can r; values = values_by told_change can.means r; short = prefix_few can.spells.listed (number_told told_change) }
   where
     named_by : (told_change : told.Change) (can : CanApply at told_change tables change) (r : Reads at.catalog.listing told_change change) → IsIdentifier at.pages.slots (tid_told told_change)
     named_by (Insert number tid values) can r = can.fit_next.tids r.relation.name tid (live_new can r (no_body _ r.was r.before))
@@ -268,12 +307,13 @@ has_tables {tables = tables} may told spells fit = record {
   tuples = fit.tuples;
   tids = fit.tids;
   few = fit.few;
+  links = fit.links;
   nodes = nodes_within (may.tables told);
 }
 
 -- where it doesn't go with what is there, and there is room, there are no tables from which it can be applied
-pub none_applies : {at : AccessView} {told_change : told.Change} {place : Place} → CanAlter at → IsTold at.pages.disk → IsTupleRecord told_change → (HasTables at → Misfits told_change at place) → HasRoom at (number_told told_change) → (tables : Tables) (change : Change) → CanApply at told_change tables change → ⊥
-none_applies {at = at} {told_change = told_change} may disk is misfits room tables change can = by (misfits (has_tables may disk can.spells can.fit))
+none_tuple : {at : AccessView} {told_change : told.Change} {place : Place} → IsTupleRecord told_change → Misfits told_change at place → HasRoom at (number_told told_change) → (tables : Tables) (change : Change) → CanApply at told_change tables change → ⊥
+none_tuple {at = at} {told_change = told_change} is misfits room tables change can = by misfits
   where
     r : Reads at.catalog.listing told_change change
     r = reads told_change change is can.tells can.means
@@ -282,9 +322,43 @@ none_applies {at = at} {told_change = told_change} may disk is misfits room tabl
     same there = same_Some _ _ (sym r.at ∙ there)
 
     by : {place : Place} → Misfits told_change at place → ⊥
-    by (tuple_misfits there not) =
-        not (ap (λ (entry : RelationEntry). body_at at.pages entry.segment (tid_told told_change)) (sym (same there)) ∙ body_there can r)
-        (subst (λ (entry : RelationEntry). MayBecome at.pages.slots entry.fields told_change) (same there) (can_become told_change can r))
-    by (room_misfits there not) = not room
-    by (count_misfits there found not) = not (subst (λ (entry : RelationEntry). MayCount told_change entry.live) (same there) (can_count told_change can r))
-    by (unlisted none) = absurd (none-some _ (sym none ∙ r.at))
+    by (tuple_misfits of there not) =
+        not (prefix can r) (prefix_there can r) (ap (λ (entry : RelationEntry). body_at at.pages entry.segment (tid_told told_change)) (sym (same there)) ∙ body_there can r)
+        (subst (λ (entry : RelationEntry). MayBecome at.pages.slots at.catalog.listing entry.fields told_change) (same there) (can_become told_change can r))
+    by (room_misfits of there not) = not room
+    by (count_misfits of there fitting found not) = not (subst (λ (entry : RelationEntry). MayCount told_change entry.live) (same there) (can_count told_change can r))
+    by (unlisted of none) = absurd (none-some _ (sym none ∙ r.at))
+    by (connect_misfits of small not) = subst IsTupleRecord of is
+    by (disconnect_misfits of small not) = subst IsTupleRecord of is
+
+none_connect : {at : AccessView} {link : ℕ} {parent left : Option Tid} {child : Tid} {place : Place} → Misfits (Connect link parent child left) at place → (tables : Tables) (change : Change) → CanApply at (Connect link parent child left) tables change → ⊥
+none_connect (tuple_misfits of there not) tables change can = absurd of
+none_connect (room_misfits of there not) tables change can = absurd of
+none_connect (count_misfits of there fitting found not) tables change can = absurd of
+none_connect (unlisted of none) tables change can = absurd of
+none_connect {at = at} {link = link} {parent = parent} {left = left} {child = child} (connect_misfits is small not) tables change can = chain_none small can (subst (NoneConnects (members at)) (same is) not)
+  where
+    same : {l : ℕ} {p f : Option Tid} {c : Tid} → Connect link parent child left ≡ Connect l p c f → ◌≡◌ {A = Membership} (record { link = l; parent = p; child = c; left = f }) (record { link = link; parent = parent; child = child; left = left })
+    same is = cc
+none_connect (disconnect_misfits is small not) tables change can = absurd (cc)
+
+none_disconnect : {at : AccessView} {link : ℕ} {parent left : Option Tid} {child : Tid} {place : Place} → Misfits (Disconnect link parent child left) at place → (tables : Tables) (change : Change) → CanApply at (Disconnect link parent child left) tables change → ⊥
+none_disconnect (tuple_misfits of there not) tables change can = absurd of
+none_disconnect (room_misfits of there not) tables change can = absurd of
+none_disconnect (count_misfits of there fitting found not) tables change can = absurd of
+none_disconnect (unlisted of none) tables change can = absurd of
+none_disconnect (connect_misfits is small not) tables change can = absurd (cc)
+none_disconnect {at = at} {link = link} {parent = parent} {left = left} {child = child} (disconnect_misfits is small not) tables change can = chain_none_off small can (subst (NoneDisconnects (members at)) (same is) not)
+  where
+    same : {l : ℕ} {p f : Option Tid} {c : Tid} → Disconnect link parent child left ≡ Disconnect l p c f → ◌≡◌ {A = Membership} (record { link = l; parent = p; child = c; left = f }) (record { link = link; parent = parent; child = child; left = left })
+    same is = cc
+
+none_by : {at : AccessView} (told_change : told.Change) {place : Place} → Misfits told_change at place → HasRoomFor at told_change → (tables : Tables) (change : Change) → CanApply at told_change tables change → ⊥
+none_by (Insert number tid values) misfits room = none_tuple tt misfits room
+none_by (Delete number tid values) misfits room = none_tuple tt misfits room
+none_by (Update number tid from to) misfits room = none_tuple tt misfits room
+none_by (Connect link parent child left) misfits room = none_connect misfits
+none_by (Disconnect link parent child left) misfits room = none_disconnect misfits
+
+pub none_applies : {at : AccessView} {told_change : told.Change} {place : Place} → CanAlter at → IsTold at.pages.disk → (HasTables at → Misfits told_change at place) → HasRoomFor at told_change → (tables : Tables) (change : Change) → CanApply at told_change tables change → ⊥
+none_applies {told_change = told_change} may disk misfits room tables change can = none_by told_change (misfits (has_tables may disk can.spells can.fit)) room tables change can

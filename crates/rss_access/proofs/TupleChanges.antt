@@ -24,11 +24,11 @@ use Rattle.rss_tuple.specs.Finding.{IsFetched}
 use Rattle.rss_tuple.specs.TupleSteps.{TuplesCall, tuples_in, only_tuple, pages_for}
 use Rattle.rss_tuple.specs.Heaps.{AreHeaps}
 use Rattle.rss_tuple.specs.Placing.{IsFree, TakesOnly, TakesOne, MayTake, home, overflow}
-use Rattle.rss_tuple.specs.Calls.{IsSegment, IsBodyLength, IsNoLonger, PutsTuple, InsertsAt}
+use Rattle.rss_tuple.specs.Calls.{IsSegment, IsNoLonger, PutsTuple}
 use Rattle.rss_tuple.proofs.Seen.{high_empty}
 use Rattle.rss_tuple.proofs.Changes.{empty_absent, live_some, fits_unmapped}
 use Rattle.rss_tuple.proofs.Placed.{empty_there}
-use Rattle.rss_access.specs.Tuples.{IsPageFor, body_at, size_of_body, bytes_at, ChangesTuple, Inserts, FindsBody}
+use Rattle.rss_access.specs.Tuples.{IsPageFor, body_at, size_of_body, bytes_at, ChangesTuple, FindsBody}
 
 -- ---- sums over a range of numbers
 
@@ -216,15 +216,6 @@ longer_new old new segment tid body some absent told key space is not = omega (a
 pub longer_ok : {T : Type 0} {A : Type 0} (result : Result T PageFault) → A → OnOk result A
 longer_ok (Ok value) a = a
 longer_ok (Err e) a = tt
-
--- so an insert changes one tuple
-pub inserts_tuple : {segment : ℕ} {tid : Tid} {body : List ℕ} {old new : PagesView} → IsBodyLength (length body) → InsertsAt segment body [] (tuples_in old) (tuples_in new) tid → (IsTold old.disk → AreHeaps new) → Inserts segment body old new tid
-inserts_tuple {segment = segment} {tid = tid} {body = body} {old = old} {new = new} long is heaps = record {
-  named = record { page = is.named.within; slot = is.named.low };
-  chosen = is.chosen;
-  absent = λ told. (is.free told).absent;
-  changes = changes_by (λ told. is.named.low) long.most (longer_new old new segment tid body long.some (λ told. (is.free told).absent)) is.takes is.changed is.put heaps;
-}
 
 -- one stood there, and no page is taken where the body isn't longer
 pub longer_put : {T : Type 0} (old new : PagesView) (segment : ℕ) (tid : Tid) (body : List ℕ) (result : Result T PageFault) → (IsTold old.disk → IsSome (bodies_of old.held segment tid)) → OnOk result (IsTold old.disk → IsNoLonger (tuples_in old) segment tid (length body) → TakesOnly no_page old new) → OnOk result (OnlyLonger old new segment tid body)

@@ -7,17 +7,16 @@ use Rattle.std.specs.Ordering.{eq_by_cmp}
 use Rattle.std.specs.Cmp.{Equal-is}
 use Rattle.std.proofs.lemmas.Bool.{cases_Bool, or_cases, cond-true, cond-false}
 use Rattle.std.proofs.lemmas.List.Sums.{sum_by-cons, sum_by-le-sum_by}
-use Rattle.rss_base.specs.Listings.{Listing, ListingFits, HasNoLinks, segment_at}
+use Rattle.rss_base.specs.Listings.{Listing, ListingFits, segment_at}
 use Rattle.rss_base.specs.declared.name.Name.{Name}
 use Rattle.rss_base.specs.declared.tid.Tid.{Tid}
-use Rattle.rss_base.specs.declared.value.Value.{Value}
 use Rattle.rss_base.specs.declared.item.Item.TheVariants.{Tuple as TupleItem}
 use Rattle.rss_tuple.specs.Directory.{Bodies, tid_at}
-use Rattle.rss_model.specs.Items.{Values, name_cmp}
-use Rattle.rss_model.specs.Tables.{Definitions, Tables, content}
+use Rattle.rss_model.specs.Items.{name_cmp}
+use Rattle.rss_model.specs.Tables.{Tables, content}
 use Rattle.rss_model.specs.Meter.{is_in_segment, relations_in, held_size, bytes_of, bytes_on}
-use Rattle.rss_model.specs.Store.{Defines, plain_body as body_of}
-use Rattle.rss_model.proofs.PlainStores.{no_links_defined, no_blocks, PlainContents as SpellsContents}
+use Rattle.rss_model.specs.Store.{Defines, SpellsContents}
+use Rattle.rss_model.proofs.Prefixes.{size_is}
 use Rattle.rss_model.proofs.Codes.{name_apart}
 use Rattle.rss_model.proofs.Frees.{stands_in, is_listed}
 use Rattle.rss_model.proofs.Listed.{stands_within}
@@ -63,11 +62,7 @@ le_by less same = omega (arith, less, same)
 
 -- ---- the bytes of a page
 
--- a tuple has as many bytes as its body
-pub values_size : (definitions : Definitions) → definitions.links ≡ map.empty → (relation : Name) (number : ℕ) (values : List Value) → held_size definitions relation (Some (Values values)) ≡ size_of_body (Some (body_of number values))
-values_size definitions none relation number values = let blocks = no_blocks definitions none relation in omega (arith, blocks)
-
-module _ {listing : Listing} {bodies : Bodies} (tables : Tables) (fits : ListingFits listing) (no_links : HasNoLinks listing) (defines : Defines listing tables.definitions) (spells : SpellsContents listing bodies tables.contents) (n : ℕ) (segment : Name) (named : segment_at listing n ≡ Some segment) where
+module _ {listing : Listing} {bodies : Bodies} (tables : Tables) (fits : ListingFits listing) (defines : Defines listing tables.definitions) (spells : SpellsContents listing bodies tables.contents) (n : ℕ) (segment : Name) (named : segment_at listing n ≡ Some segment) where
   -- how many bytes a tuple of a relation has
   abbrev size_at : Tid → Name → ℕ
   size_at tid relation = held_size tables.definitions relation (content tables.contents (TupleItem relation tid))
@@ -78,7 +73,7 @@ module _ {listing : Listing} {bodies : Bodies} (tables : Tables) (fits : Listing
   body_less tid (Some body) is =
       let of = spells.bodies_are n tid body is in
       let stands = stands_within tables fits defines of.number of.relation of.at segment (ap (segment_at listing) of.within ∙ named) in
-      let size : size_at tid of.relation.name ≡ size_of_body (Some body) = ap (held_size tables.definitions of.relation.name) of.holds ∙ values_size tables.definitions (no_links_defined no_links defines) of.relation.name of.number of.values ∙ ap (λ (b : List ℕ). size_of_body (Some b)) (sym of.is) in
+      let size : size_at tid of.relation.name ≡ size_of_body (Some body) = ap (held_size tables.definitions of.relation.name) of.holds ∙ size_is fits defines of.number of.relation of.at tables.contents tid of.values ∙ ap (λ (b : List ℕ). size_of_body (Some b)) (sym of.is) in
       omega (arith, size, kept_less (is_in_segment tables segment) (size_at tid) (map.keys tables.definitions.relations) of.relation.name (is_listed tables segment of.relation.name stands) (stands_in tables segment of.relation.name stands))
 
   -- the tuples of the segment's relations have all bytes of its bodies

@@ -45,7 +45,6 @@ module _ {old new : Held} (same : SameOffSystem old new) where
     counts = spells.counts;
     contents = subst (λ (b : Bodies). SpellsContents listing b tables.contents) (sym (bodies_alike (same_heaps same))) spells.contents;
     images = images_kept same_images spells.images;
-    no_links = spells.no_links;
   }
     where
       kept : (key : PageKey) → is_some (new key) ≡ true → key.space ≢ System → IsStorePage listing key

@@ -1,5 +1,6 @@
--- The bodies of tuples: the number of the relation, and the bytes of the values.
-use Rattle.std.specs.Prelude.{◌≡◌, ℕ, Bool, false, ◌&&◌, ◌==◌, List, [], ◌∷◌, Option, Some, None}
+-- The bodies of tuples: the number of the relation, the blocks of its links, and the bytes of the values.
+use Rattle.std.specs.Prelude.{◌≡◌, ℕ, Bool, false, ◌&&◌, ◌==◌, List, [], ◌∷◌, ◌++◌, length, drop, nat_le, Option, Some, None}
+use Rattle.rss_base.specs.Prefixes.{prefix_size}
 use Rattle.rss_base.specs.TupleTypes.{kinds, Spells}
 use Rattle.rss_value.specs.Spelled.{is_spelled}
 use Rattle.rss_base.specs.Listings.{Listing, relation_at}
@@ -7,11 +8,17 @@ use Rattle.rss_base.specs.declared.relation.RelationEntry.{RelationEntry}
 use Rattle.rss_base.specs.declared.value.FieldKind.{FieldKind}
 use Rattle.rss_base.specs.declared.value.Value.{Value}
 
+-- These bytes stand in a body behind the number of a relation and the blocks of its links.
+pub record HoldsBytes (listing : Listing) (number : ℕ) (body bytes : List ℕ) : Type 0 where
+  pub prefix : List ℕ
+  pub long : length prefix ≡ prefix_size listing.links number
+  pub is : body ≡ number ∷ (prefix ++ bytes)
+
 -- the body is that of a tuple with these values, of the relation of this number and these fields
-pub record IsBodyOf (number : ℕ) (fields : List FieldKind) (values : List Value) (body : List ℕ) : Type 0 where
-  pub rest : List ℕ
-  pub is : body ≡ number ∷ rest
-  pub spelled : Spells fields rest values
+pub record IsBodyOf (listing : Listing) (number : ℕ) (fields : List FieldKind) (values : List Value) (body : List ℕ) : Type 0 where
+  pub bytes : List ℕ
+  pub holds : HoldsBytes listing number body bytes
+  pub spelled : Spells fields bytes values
 
 -- ---- whether a body may stand in a segment
 
@@ -21,6 +28,9 @@ is_values_of None segment bytes = false
 is_values_of (Some relation) segment bytes =
     (relation.segment == segment) && is_spelled (kinds relation.fields) bytes
 
+-- what stands behind the blocks; where these don't fit in, no values are spelled
 abbrev pub is_body : Listing → ℕ → List ℕ → Bool
 is_body listing segment [] = false
-is_body listing segment (number ∷ bytes) = is_values_of (relation_at listing number) segment bytes
+is_body listing segment (number ∷ bytes) =
+    nat_le (prefix_size listing.links number) (length bytes)
+    && is_values_of (relation_at listing number) segment (drop (prefix_size listing.links number) bytes)

@@ -1,120 +1,39 @@
 -- What a change of a tuple does, as a record of the log tells it: to the pages, to the catalog, and to the tables that these spell.
-use Rattle.std.specs.Prelude.{◌≡◌, ℕ, ◌+◌, ◌-◌, ◌*◌, ◌^◌, ◌<◌, ◌≤◌, List, ◌∷◌, Option, Some, None, option_map, Result, Err, IsErrOf, OnOk, OnErr, ⊤}
+use Rattle.std.specs.Prelude.{◌≡◌, ℕ, ◌+◌, ◌*◌, ◌^◌, ◌<◌, ◌≤◌, List, Option, Some, None, option_map, Result, Err, IsErrOf, OnOk, OnErr, ⊤}
 use Rattle.rss_base.specs.DiskRule.{IsTold}
 use Rattle.rss_base.specs.Faults.{Rises}
 use Rattle.rss_base.specs.Steps.{PagesView, Keys, PagesStep, no_page, pages_in}
 use Rattle.rss_base.specs.declared.key.Space.TheVariants.{Image as ImageSpace}
-use Rattle.rss_base.specs.TupleTypes.{kinds, SpellsSome}
-use Rattle.rss_base.specs.Listings.{Listing, relation_at}
+use Rattle.rss_base.specs.TupleTypes.{tuple_bytes}
+use Rattle.rss_base.specs.Listings.{Listing, relation_at, link_at}
 use Rattle.rss_base.specs.declared.name.Name.{Name}
 use Rattle.rss_base.specs.declared.tid.Tid.{Tid}
-use Rattle.rss_base.specs.declared.field.FieldDef.{FieldDef}
 use Rattle.rss_base.specs.declared.place.Place.{Place}
 use Rattle.rss_base.specs.declared.place.Place.TheVariants.{Tuple as TuplePlace, Count as CountPlace}
 use Rattle.rss_base.specs.declared.fault.PageFault.{PageFault}
 use Rattle.rss_base.specs.declared.fault.PageFault.TheVariants.{Device as DeviceFailed, Damaged, NoMemory}
 use Rattle.rss_base.specs.declared.relation.RelationEntry.{RelationEntry}
+use Rattle.rss_base.specs.declared.link.LinkEntry.{LinkEntry}
 use Rattle.rss_base.specs.declared.change.Change as told
 use Rattle.rss_base.specs.declared.change.Change.TheVariants.{Insert, Delete, Update, Connect, Disconnect}
 use Rattle.rss_tuple.specs.Heaps.{AreHeaps}
+use Rattle.rss_tuple.specs.Placing.{TakesOnly}
+use Rattle.rss_tuple.specs.TupleSteps.{tuples_in}
 use Rattle.rss_catalog.specs.Catalogs.{CatalogView, HasImageOf}
 use Rattle.rss_model.specs.Items.{Content}
 use Rattle.rss_model.specs.Tables.{Tables, content, tuple_count}
+use Rattle.rss_model.specs.Chains.{LinksFit}
 use Rattle.rss_model.specs.Changes.{Change, apply, undo}
 use Rattle.rss_model.specs.Fits.{Fits, IsLive, IsIdentifier, tuple_limit}
 use Rattle.rss_model.specs.Meanings.{IsChangeTold, Means}
-use Rattle.rss_model.specs.Store.{SpellsTables, SpellsImages, AreNodesWithin, plain_body}
+use Rattle.rss_model.specs.Store.{SpellsTables, SpellsImages, AreNodesWithin}
+use Rattle.rss_members.specs.Calls.{MembersView, Connects, Disconnects, NoneConnects, NoneDisconnects, Reends, pages_of_link}
 use Rattle.rss_entries.specs.Rooms.{images_room, image_places, images_cost}
 use Rattle.rss_entries.specs.Images.{AreTuples, TupleMove, CanMove, after_move}
+use Rattle.rss_access.specs.Told.{IsTupleRecord, number_told, tid_told, values_before, values_after, body_before, body_after, count_after, IsPrefix, MayBecome, MayCount}
 use Rattle.rss_access.specs.Tuples.{body_at, ChangesTuple}
 use Rattle.rss_access.specs.Written.{heap_now, content_of}
-use Rattle.rss_access.specs.Relisted.{Rerooted, Recounted}
-
--- ---- a change, as it is told
-
--- As yet the changes of chains aren't made.
-abbrev pub IsTupleRecord : told.Change → Type 0
-IsTupleRecord (Insert relation tid values) = ⊤
-IsTupleRecord (Delete relation tid values) = ⊤
-IsTupleRecord (Update relation tid old new) = ⊤
-IsTupleRecord (Connect link parent child left) = ⊥
-IsTupleRecord (Disconnect link parent child left) = ⊥
-
--- the number of the relation or of the link, and the identifier of the tuple
-abbrev pub number_told : told.Change → ℕ
-number_told (Insert relation tid values) = relation
-number_told (Delete relation tid values) = relation
-number_told (Update relation tid old new) = relation
-number_told (Connect link parent child left) = link
-number_told (Disconnect link parent child left) = link
-
-abbrev pub tid_told : told.Change → Tid
-tid_told (Insert relation tid values) = tid
-tid_told (Delete relation tid values) = tid
-tid_told (Update relation tid old new) = tid
-tid_told (Connect link parent child left) = child
-tid_told (Disconnect link parent child left) = child
-
--- the change turned round
-abbrev pub reversed : told.Change → told.Change
-reversed (Insert relation tid values) = Delete relation tid values
-reversed (Delete relation tid values) = Insert relation tid values
-reversed (Update relation tid old new) = Update relation tid new old
-reversed (Connect link parent child left) = Disconnect link parent child left
-reversed (Disconnect link parent child left) = Connect link parent child left
-
--- the body that it finds, and the one that it leaves
-abbrev pub body_before : told.Change → Option (List ℕ)
-body_before (Insert relation tid values) = None
-body_before (Delete relation tid values) = Some (relation ∷ values)
-body_before (Update relation tid old new) = Some (relation ∷ old)
-body_before (Connect link parent child left) = None
-body_before (Disconnect link parent child left) = None
-
-abbrev pub body_after : told.Change → Option (List ℕ)
-body_after change = body_before (reversed change)
-
--- how many tuples the relation has after it
-abbrev pub count_after : told.Change → ℕ → ℕ
-count_after (Insert relation tid values) live = live + 1
-count_after (Delete relation tid values) live = live - 1
-count_after (Update relation tid old new) live = live
-count_after (Connect link parent child left) live = live
-count_after (Disconnect link parent child left) live = live
-
--- the machine's change turned round
-abbrev pub turned : Change → Change
-turned change = record change { old = change.new; new = change.old }
-
--- a change that is turned round means the reverse
-abbrev pub ReverseMeans : told.Change → told.Change → Type 0
-ReverseMeans told_change back =
-    (listing : Listing) (change : Change)
-    → Means listing told_change change → Means listing back (turned change)
-
--- ---- where it may be made
-
--- the values that it tells are those of tuples with these fields
-abbrev pub AreValuesOf : List FieldDef → told.Change → Type 0
-AreValuesOf fields (Insert number tid values) = SpellsSome (kinds fields) values
-AreValuesOf fields (Delete number tid values) = SpellsSome (kinds fields) values
-AreValuesOf fields (Update number tid old new) =
-    SpellsSome (kinds fields) old × SpellsSome (kinds fields) new
-AreValuesOf fields (Connect link parent child left) = ⊤
-AreValuesOf fields (Disconnect link parent child left) = ⊤
-
--- and the tuple may have this identifier
-pub record MayBecome (slots : ℕ) (fields : List FieldDef) (change : told.Change) : Type 0 where
-  pub named : IsIdentifier slots (tid_told change)
-  pub values : AreValuesOf fields change
-
--- one tuple more or less can be counted
-abbrev pub MayCount : told.Change → ℕ → Type 0
-MayCount (Insert relation tid values) live = live < tuple_limit
-MayCount (Delete relation tid values) live = 0 < live
-MayCount (Update relation tid old new) live = ⊤
-MayCount (Connect link parent child left) live = ⊤
-MayCount (Disconnect link parent child left) live = ⊤
+use Rattle.rss_access.specs.Relisted.{Rerooted, Recounted, Relists}
 
 -- ---- the tables
 
@@ -126,13 +45,18 @@ pub record AccessView : Type 1 where
 abbrev pub both : PagesView → CatalogView → AccessView
 both pages catalog = record { pages = pages; catalog = catalog }
 
--- The pages spell tables by the catalog's listing, with tuples of their relations, not too many of each, and identifiers of the store, also in the nodes of images.
+-- the tuples in the pages, with the catalog
+abbrev pub members : AccessView → MembersView
+members at = record { tuples = tuples_in at.pages; catalog = at.catalog }
+
+-- The pages spell tables by the catalog's listing, with tuples of their relations, not too many of each, chains such as links have, and identifiers of the store, also in the nodes of images.
 pub record HasTables (at : AccessView) : Type 0 where
   pub tables : Tables
   pub spells : SpellsTables at.pages.held at.catalog.listing tables
   pub tuples : AreTuples tables
   pub tids : (relation : Name) (tid : Tid) → IsLive tables relation tid → IsIdentifier at.pages.slots tid
   pub few : (relation : Name) → tuple_count tables.contents relation ≤ tuple_limit
+  pub links : LinksFit tables
   pub nodes : AreNodesWithin at.pages.slots at.pages.held at.catalog.listing
 
 -- On a device that tells its contents, the pages are those of a tuple store, and spell tables.
@@ -143,6 +67,14 @@ pub record CanAlter (at : AccessView) : Type 0 where
 -- There is room for two pages more, and for a pair more in each image of the relation.
 abbrev pub HasRoom : AccessView → ℕ → Type 0
 HasRoom at number = 2 + images_room at.catalog.listing number ≤ image_places at.pages
+
+-- there is for the change: one of a chain needs none
+abbrev pub HasRoomFor : AccessView → told.Change → Type 0
+HasRoomFor at (Insert relation tid values) = HasRoom at relation
+HasRoomFor at (Delete relation tid values) = HasRoom at relation
+HasRoomFor at (Update relation tid old new) = HasRoom at relation
+HasRoomFor at (Connect link parent child left) = ⊤
+HasRoomFor at (Disconnect link parent child left) = ⊤
 
 -- the tables with the change applied, or undone
 abbrev pub applied : Tables → Change → Tables
@@ -207,8 +139,8 @@ own_image_pages listing number key =
 pub record TellsMove (change : told.Change) (move : TupleMove) : Type 0 where
   pub number : number_told change ≡ move.number
   pub tid : tid_told change ≡ move.tid
-  pub before : body_before change ≡ option_map (plain_body move.number) move.was
-  pub after : body_after change ≡ option_map (plain_body move.number) move.next
+  pub before : values_before change ≡ option_map tuple_bytes move.was
+  pub after : values_after change ≡ option_map tuple_bytes move.next
 
 -- The image pages show tables in which the tuple can change so, and there is room for its entries.
 pub record ShowsMove (at : AccessView) (change : told.Change) (move : TupleMove) (tables : Tables) : Type 0 where
@@ -241,46 +173,82 @@ AllNodesStay old new change = (move : TupleMove) (tables : Tables) → ShowsMove
 
 -- ---- what is done to the pages and the catalog
 
--- There was room; the tuple was as the change finds it, and is as the change leaves it; so is the count of its relation, with its images.
-pub record Alters (change : told.Change) (old new : AccessView) : Type 0 where
+-- A tuple was changed: there was room; it was as the change finds it, and is as the change leaves it, with these bytes between; so is the count of its relation, with its images.
+pub record AltersTuple (change : told.Change) (old new : AccessView) : Type 0 where
   pub relation : RelationEntry
+  pub prefix : List ℕ
   pub listed : relation_at old.catalog.listing (number_told change) ≡ Some relation
   pub small : old.pages.slots < 2 ^ 32
   pub room : HasRoom old (number_told change)
+  pub fitting : IsPrefix old.catalog.listing change prefix
   pub found : IsTold old.pages.disk
-      → body_at old.pages relation.segment (tid_told change) ≡ body_before change
-  pub changes : ChangesTuple relation.segment (tid_told change) (body_after change)
+      → body_at old.pages relation.segment (tid_told change) ≡ body_before prefix change
+  pub changes : ChangesTuple relation.segment (tid_told change) (body_after prefix change)
       old.pages new.pages
   pub counts : Recounted (number_told change) (count_after change relation.live) relation
       old.catalog new.catalog
   pub images : IsTold old.pages.disk → MovesAll old new change
 
--- The change can't be made: the tuple isn't as the change finds it or can't be as the change leaves it; its relation isn't listed, or can't be counted so; or there is no room.
+-- A tuple came into a chain or went out of it, in whatever tables were spelled; no page was taken, and the link's ends are listed.
+pub record AltersChain (result : MembersView → MembersView → Type 0) (number : ℕ) (old new : AccessView) : Type 0 where
+  pub link : LinkEntry
+  pub listed : link_at old.catalog.listing number ≡ Some link
+  pub small : old.pages.slots < 2 ^ 32
+  pub takes : IsTold old.pages.disk → TakesOnly no_page old.pages new.pages
+  pub heaps : IsTold old.pages.disk → AreHeaps new.pages
+  pub ends : Reends number link old.catalog new.catalog
+  pub chains : result (members old) (members new)
+
+-- what the change does
+abbrev pub Alters : told.Change → AccessView → AccessView → Type 0
+Alters (Insert relation tid values) = AltersTuple (Insert relation tid values)
+Alters (Delete relation tid values) = AltersTuple (Delete relation tid values)
+Alters (Update relation tid old new) = AltersTuple (Update relation tid old new)
+Alters (Connect link parent child left) =
+    AltersChain (λ was now. Connects was now (record { link = link; parent = parent; child = child; left = left })) link
+Alters (Disconnect link parent child left) =
+    AltersChain (λ was now. Disconnects was now (record { link = link; parent = parent; child = child; left = left })) link
+
+-- The change can't be made: the tuple isn't as the change finds it or can't be as the change leaves it; its relation isn't listed, or can't be counted so; or there is no room. Or the tuple can't come into the chain that the change tells, or doesn't stand where it tells.
 pub data Misfits (change : told.Change) (at : AccessView) : Place → Type 0 where
-  tuple : {relation : RelationEntry}
+  tuple : {relation : RelationEntry} → IsTupleRecord change
       → relation_at at.catalog.listing (number_told change) ≡ Some relation
-      → (body_at at.pages relation.segment (tid_told change) ≡ body_before change
-      → MayBecome at.pages.slots relation.fields change → ⊥)
+      → ((prefix : List ℕ) → IsPrefix at.catalog.listing change prefix
+      → body_at at.pages relation.segment (tid_told change) ≡ body_before prefix change
+      → MayBecome at.pages.slots at.catalog.listing relation.fields change → ⊥)
       → Misfits change at (TuplePlace relation.segment (tid_told change))
-  room : {relation : RelationEntry}
+  room : {relation : RelationEntry} → IsTupleRecord change
       → relation_at at.catalog.listing (number_told change) ≡ Some relation
       → (HasRoom at (number_told change) → ⊥)
       → Misfits change at (TuplePlace relation.segment (tid_told change))
-  count : {relation : RelationEntry}
+  count : {relation : RelationEntry} {prefix : List ℕ} → IsTupleRecord change
       → relation_at at.catalog.listing (number_told change) ≡ Some relation
-      → body_at at.pages relation.segment (tid_told change) ≡ body_before change
+      → IsPrefix at.catalog.listing change prefix
+      → body_at at.pages relation.segment (tid_told change) ≡ body_before prefix change
       → (MayCount change relation.live → ⊥)
       → Misfits change at (CountPlace (number_told change))
-  unlisted : relation_at at.catalog.listing (number_told change) ≡ None
+  unlisted : IsTupleRecord change → relation_at at.catalog.listing (number_told change) ≡ None
       → Misfits change at (CountPlace (number_told change))
+  connect : {link : ℕ} {parent left : Option Tid} {child : Tid} {place : Place}
+      → change ≡ Connect link parent child left → at.pages.slots < 2 ^ 32
+      → NoneConnects (members at) (record { link = link; parent = parent; child = child; left = left })
+      → Misfits change at place
+  disconnect : {link : ℕ} {parent left : Option Tid} {child : Tid} {place : Place}
+      → change ≡ Disconnect link parent child left → at.pages.slots < 2 ^ 32
+      → NoneDisconnects (members at) (record { link = link; parent = parent; child = child; left = left })
+      → Misfits change at place
 
--- the pages of the relation's segment
+-- the pages of the relation's segment, or those of a link's segments
 abbrev pub pages_of_relation : Listing → Option RelationEntry → Keys
 pages_of_relation listing None key = ⊥
 pages_of_relation listing (Some relation) key = (key.segment ≡ relation.segment) × content_of listing key
 
 abbrev pub pages_told : Listing → told.Change → Keys
-pages_told listing change = pages_of_relation listing (relation_at listing (number_told change))
+pages_told listing (Insert relation tid values) = pages_of_relation listing (relation_at listing relation)
+pages_told listing (Delete relation tid values) = pages_of_relation listing (relation_at listing relation)
+pages_told listing (Update relation tid old new) = pages_of_relation listing (relation_at listing relation)
+pages_told listing (Connect link parent child left) = pages_of_link listing link
+pages_told listing (Disconnect link parent child left) = pages_of_link listing link
 
 -- how many pages are asked for at most, and how many may leave memory
 abbrev pub alter_cost : ℕ → ℕ
@@ -291,12 +259,13 @@ pub record Takes (pages : ℕ) (old new : PagesView) : Type 0 where
   pub heap : heap_now new ≤ heap_now old + pages
   pub places : image_places old ≤ image_places new + pages
 
--- What a call that makes this change passes on, by its result: what was done, with pages that may be changed on; or where it can't be made, on a device that tells its contents, over pages that spell tables, and then nothing was changed. Only pages of the relation's segment are touched. Each failure of the device has its cause, memory never runs out, and at an error the catalog lists the same, but for where images begin.
+-- What a call that makes this change passes on, by its result: what was done, with pages that may be changed on; or where it can't be made, on a device that tells its contents, over pages that spell tables, and then nothing was changed. Only pages of the relation's segment, or of the link's, are touched. Each failure of the device has its cause, memory never runs out, and at an error the catalog lists the same, but for where images begin.
 pub record Makes {T : Type 0} (change : told.Change) (old new : AccessView)
     (result : Result T PageFault) : Type 0 where
   pub alters : OnOk result (Alters change old new)
   pub still : OnOk result (CanAlter new)
   pub takes : OnOk result (Takes 2 old.pages new.pages)
+  pub relists : OnOk result (Relists change old.catalog new.catalog)
   pub step : PagesStep (pages_told old.catalog.listing change)
       (alter_cost old.pages.slots) (alter_cost old.pages.slots) old.pages new.pages
   pub rerooted : OnErr result (Rerooted old.catalog new.catalog)
@@ -305,4 +274,4 @@ pub record Makes {T : Type 0} (change : told.Change) (old new : AccessView)
   pub damaged : (place : Place) → result ≡ Err (Damaged place) → IsTold old.pages.disk
       → HasTables old → Misfits change old place
   pub kept : (place : Place) → result ≡ Err (Damaged place) → IsTold old.pages.disk
-      → PagesStep no_page 2 2 old.pages new.pages
+      → PagesStep no_page 16 16 old.pages new.pages

@@ -8,7 +8,7 @@ use Rattle.rss_base.specs.declared.fault.PageFault.{PageFault}
 use Rattle.rss_base.specs.declared.fault.PageFault.TheVariants.{Device as DeviceFailed, NoMemory}
 use Rattle.rss_base.specs.Trees.{IsNodeAt}
 use Rattle.rss_base.specs.TupleTypes.{Spells, SpellsSome}
-use Rattle.rss_base.specs.Listings.{ListingFits, HasNoLinks}
+use Rattle.rss_base.specs.Listings.{Listing, ListingFits}
 use Rattle.rss_base.specs.declared.name.Name.{Name}
 use Rattle.rss_base.specs.declared.tid.Tid.{Tid}
 use Rattle.rss_base.specs.declared.value.Value.{Value}
@@ -25,6 +25,7 @@ use Rattle.rss_entries.specs.Images.{AreTuples}
 use Rattle.rss_entries.specs.Keyed.{key_with}
 use Rattle.rss_entries.specs.Moving.{KeyKinds}
 use Rattle.rss_entries.specs.Seeking.{AreSingle}
+use Rattle.rss_access.specs.Bodies.{HoldsBytes}
 use Rattle.rss_access.specs.Changes.{AccessView}
 use Rattle.rss_access.specs.Tuples.{body_at}
 
@@ -38,7 +39,6 @@ pub record ShowsTuples (at : AccessView) (tables : Tables) : Type 0 where
   pub contents : SpellsContents at.catalog.listing (bodies_of at.pages.held) tables.contents
   pub tuples : AreTuples tables
   pub tids : (relation : Name) (tid : Tid) → IsLive tables relation tid → IsIdentifier at.pages.slots tid
-  pub no_links : HasNoLinks at.catalog.listing
 
 -- the identifiers in the nodes of an image that stand in these pages have pages below the number of slots
 abbrev pub AreWithin : ℕ → Held → ℕ → ImageEntry → RelationEntry → List ℕ → Type 0
@@ -88,11 +88,12 @@ pub record HasEntry (key : KeyKinds) (tid : Tid) (bytes : List ℕ) (image : Ima
       → (pairs : List (List ℕ)) → ImageTree image view.held pairs
       → Contains pairs (pair_bytes (key_with key values) tid)
 
--- where a tuple of the relation of this number has the identifier, the image has its entry
-abbrev pub HasEntryOf : KeyKinds → ℕ → Tid → Image → PagesView → Type 0
-HasEntryOf key number tid image view =
-    (bytes : List ℕ) → body_at view image.segment tid ≡ Some (number ∷ bytes) → HasEntry key tid bytes image view
+-- where a tuple of the relation of this number has the identifier, its values stand behind its blocks, and the image has its entry
+abbrev pub HasEntryOf : Listing → KeyKinds → ℕ → Tid → Image → PagesView → Type 0
+HasEntryOf listing key number tid image view =
+    (rest : List ℕ) → body_at view image.segment tid ≡ Some (number ∷ rest)
+    → (bytes : List ℕ) × HoldsBytes listing number (number ∷ rest) bytes × HasEntry key tid bytes image view
 
 -- it has the entries of all its tuples
-abbrev pub HasEntries : KeyKinds → ℕ → Image → PagesView → Type 0
-HasEntries key number image view = (tid : Tid) → HasEntryOf key number tid image view
+abbrev pub HasEntries : Listing → KeyKinds → ℕ → Image → PagesView → Type 0
+HasEntries listing key number image view = (tid : Tid) → HasEntryOf listing key number tid image view

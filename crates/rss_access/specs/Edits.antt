@@ -1,5 +1,5 @@
 -- What a change of a tuple that is lent tells.
-use Rattle.std.specs.Prelude.{ℕ, List, ◌∷◌, Option, option_map}
+use Rattle.std.specs.Prelude.{ℕ, List, Option, option_copied}
 use Rattle.std.specs.Borrow.{Bor}
 use Rattle.rss_base.specs.declared.tid.Tid.{Tid}
 use Rattle.rss_base.specs.declared.change.Change as told
@@ -17,6 +17,6 @@ told_of number tid (Update from to) = changes.Update number tid from.now to.now
 abbrev pub told_by : TupleChange → told.Change
 told_by change = told_of change.number change.tid change.edit
 
--- the body of a tuple whose values are lent, if there is one
-abbrev pub body_lent : ℕ → Option (Bor (List ℕ)) → Option (List ℕ)
-body_lent number values = option_map (λ b. number ∷ b.now) values
+-- the bytes of values that are lent, if there are any
+abbrev pub values_lent : Option (Bor (List ℕ)) → Option (List ℕ)
+values_lent values = option_copied values

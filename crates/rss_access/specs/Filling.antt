@@ -22,6 +22,7 @@ use Rattle.rss_model.specs.Store.{image_definition}
 use Rattle.rss_entries.specs.Keyed.{key_with}
 use Rattle.rss_entries.specs.Moving.{KeyKinds}
 use Rattle.rss_entries.specs.Seeking.{kept_pair}
+use Rattle.rss_access.specs.Bodies.{HoldsBytes}
 use Rattle.rss_access.specs.Changes.{AccessView}
 use Rattle.rss_access.specs.Checking.{ShowsTuples}
 use Rattle.rss_access.specs.Tuples.{body_at}
@@ -72,24 +73,27 @@ repeated_key (e ∷ entries) = repeated_behind e.0 entries
 abbrev pub entry_order : List ℕ × Tid → List ℕ × Tid → Ordering
 entry_order a b = ordering_then (slice_cmp nat_cmp a.0 b.0) (tid_cmp a.1 b.1)
 
--- The tuple with an identifier is one of the relation of this number, and these are the bytes of its values.
-pub record HasBytes (pages : PagesView) (number : ℕ) (relation : RelationEntry) (tid : Tid) : Type 0 where
-  pub bytes : List ℕ
-  pub there : body_at pages relation.segment tid ≡ Some (number ∷ bytes)
+-- The tuple with an identifier is one of the relation of this number, and has this behind the number.
+pub record HasBody (pages : PagesView) (number : ℕ) (relation : RelationEntry) (tid : Tid) : Type 0 where
+  pub rest : List ℕ
+  pub there : body_at pages relation.segment tid ≡ Some (number ∷ rest)
 
 -- The key is that of the tuple with this identifier.
-pub record IsKeyAt (pages : PagesView) (number : ℕ) (relation : RelationEntry) (which : List ℕ) (tid : Tid) (key : List ℕ) : Type 0 where
-  pub has : HasBytes pages number relation tid
-  pub spelled : SpellsSome (kinds relation.fields) has.bytes
-  pub is : (values : List Value) → Spells (kinds relation.fields) has.bytes values
+pub record IsKeyAt (at : AccessView) (number : ℕ) (relation : RelationEntry) (which : List ℕ) (tid : Tid) (key : List ℕ) : Type 0 where
+  pub has : HasBody at.pages number relation tid
+  pub bytes : List ℕ
+  pub holds : HoldsBytes at.catalog.listing number (number ∷ has.rest) bytes
+  pub spelled : SpellsSome (kinds relation.fields) bytes
+  pub is : (values : List Value) → Spells (kinds relation.fields) bytes values
       → key ≡ key_with (keys_by relation which) values
 
 -- where the tuple is one of the relation, its key
-abbrev pub FindsKey : PagesView → ℕ → RelationEntry → List ℕ → Tid → Option (List ℕ) → Type 0
-FindsKey pages number relation which tid found =
-    MatchOption found (HasBytes pages number relation tid → ⊥) (IsKeyAt pages number relation which tid)
+abbrev pub FindsKey : AccessView → ℕ → RelationEntry → List ℕ → Tid → Option (List ℕ) → Type 0
+FindsKey at number relation which tid found =
+    MatchOption found (HasBody at.pages number relation tid → ⊥) (IsKeyAt at number relation which tid)
 
--- The tuple is one of the relation, and its bytes aren't those of values of its fields, or no page has its entry.
-pub record IsMisspelled (pages : PagesView) (number : ℕ) (relation : RelationEntry) (tid : Tid) : Type 0 where
-  pub has : HasBytes pages number relation tid
-  pub not : SpellsSome (kinds relation.fields) has.bytes → tid.slot < page_entries → ⊥
+-- The tuple is one of the relation, and no values of its fields stand behind its blocks, or no page has its entry.
+pub record IsMisspelled (at : AccessView) (number : ℕ) (relation : RelationEntry) (tid : Tid) : Type 0 where
+  pub has : HasBody at.pages number relation tid
+  pub not : (bytes : List ℕ) → HoldsBytes at.catalog.listing number (number ∷ has.rest) bytes
+      → SpellsSome (kinds relation.fields) bytes → tid.slot < page_entries → ⊥

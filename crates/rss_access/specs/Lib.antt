@@ -1,9 +1,11 @@
+pub mod Told
 pub mod Bodies
 pub mod Written
 pub mod Relisted
 pub mod Tuples
 pub mod Changes
 pub mod Edits
+pub mod Alterations
 pub mod Moved
 pub mod Imaging
 pub mod Checking

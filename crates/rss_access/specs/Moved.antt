@@ -1,14 +1,22 @@
 -- The entries of a tuple are moved in the images of its relation, one image after another.
-use Rattle.std.specs.Prelude.{◌≡◌, ℕ, ◌+◌, ◌*◌, ◌≤◌, Some}
+use Rattle.std.specs.Prelude.{◌≡◌, ℕ, ◌+◌, ◌*◌, ◌≤◌, List, Option, Some}
+use Rattle.rss_base.specs.Steps.{PagesStep, no_page}
+use Rattle.rss_base.specs.TupleTypes.{kinds}
 use Rattle.rss_base.specs.Listings.{Listing, image_at, with_image, with_root}
 use Rattle.rss_base.specs.declared.image.ImageEntry.{ImageEntry}
+use Rattle.rss_base.specs.declared.relation.RelationEntry.{RelationEntry}
+use Rattle.rss_base.specs.declared.value.Value.{Value}
 use Rattle.rss_base.specs.declared.change.Change as told
 use Rattle.rss_catalog.specs.Catalogs.{CatalogView}
 use Rattle.rss_model.specs.Tables.{Tables}
+use Rattle.rss_model.specs.Store.{IsListedImage}
 use Rattle.rss_entries.specs.Rooms.{images_room, image_places}
-use Rattle.rss_entries.specs.Images.{TupleMove, CanMove, ShowBelow}
-use Rattle.rss_access.specs.Changes.{AccessView, NodesStay, TellsMove, tid_told}
+use Rattle.rss_entries.specs.Moving.{AreSpelled}
+use Rattle.rss_entries.specs.Keyed.{IsOneKey}
+use Rattle.rss_entries.specs.Images.{TupleMove, CanMove, ShowBelow, key_of}
+use Rattle.rss_access.specs.Told.{number_told, tid_told, values_before, values_after}
 use Rattle.rss_access.specs.Relisted.{Rerooted}
+use Rattle.rss_access.specs.Changes.{AccessView, NodesStay, TellsMove}
 
 -- how many pages are asked for at most where an entry is moved in one image, and how many may leave memory
 abbrev pub image_cost : ℕ
@@ -47,3 +55,17 @@ NodesStayAt k old new change = (move : TupleMove) (tables : Tables) → ShowsMov
 pub record Reroots (number root levels : ℕ) (image : ImageEntry) (old new : CatalogView) : Type 0 where
   pub is : new.listing ≡ with_image old.listing number (Some (with_root root levels image))
   pub rerooted : Rerooted old new
+
+-- ---- where keys stay
+
+-- In each image of its relation the change leaves the tuple's key, or there is no tuple before it and after it.
+pub record KeepsKeys (listing : Listing) (change : told.Change) : Type 0 where
+  pub each : (number : ℕ) (image : ImageEntry) (relation : RelationEntry)
+      → IsListedImage listing number image relation → image.relation ≡ number_told change
+      → (was next : Option (List Value)) → AreSpelled (kinds relation.fields) (values_before change) was
+      → AreSpelled (kinds relation.fields) (values_after change) next → IsOneKey (key_of image relation) was next
+
+-- No page was asked for, and the catalog is as it was.
+pub record StaysAsItWas (old new : AccessView) : Type 0 where
+  pub pages : PagesStep no_page 0 0 old.pages new.pages
+  pub catalog : new.catalog ≡ old.catalog

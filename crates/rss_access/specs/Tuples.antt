@@ -1,5 +1,5 @@
 -- What the calls on tuples do to the pages.
-use Rattle.std.specs.Prelude.{◌≡◌, ◌⊎◌, ℕ, ◌<◌, ◌≤◌, Bool, true, false, List, [], ◌∷◌, length, sum_by, Option, Some, None, MatchOption, option_map, unwrap_or}
+use Rattle.std.specs.Prelude.{◌≡◌, ◌⊎◌, ℕ, ◌<◌, ◌≤◌, Bool, true, false, List, ◌∷◌, length, sum_by, Option, Some, MatchOption, option_map, unwrap_or}
 use Rattle.std.specs.List.{range_with_len}
 use Rattle.rss_base.specs.DiskRule.{IsTold}
 use Rattle.rss_base.specs.Sizes.{page_entries}
@@ -12,9 +12,7 @@ use Rattle.rss_page.specs.Slotted.{IsHeapKey, bodies_room}
 use Rattle.rss_tuple.specs.Directory.{Bodies, bodies_of, with_body, tid_at}
 use Rattle.rss_tuple.specs.Finding.{IsAfter}
 use Rattle.rss_tuple.specs.Heaps.{body_most, AreHeaps}
-use Rattle.rss_tuple.specs.Placing.{IsChosen}
 use Rattle.rss_tuple.specs.TupleSteps.{IsLeast, NoneIs}
-use Rattle.rss_model.specs.Fits.{IsIdentifier}
 
 -- the pages that a tuple may have: the home pages of its identifier's number, and overflow pages
 abbrev pub IsPageFor : Tid → PageKey → Type 0
@@ -66,13 +64,6 @@ pub record ChangesTuple (segment : ℕ) (tid : Tid) (now : Option (List ℕ)) (o
   pub changed : (key : PageKey) → IsHeapKey key → new.changed key ≡ true
       → (old.changed key ≡ true) ⊎ IsPageFor tid key
   pub sets : IsTold old.disk → SetsBody segment tid now old new
-
--- A tuple with this body was put where none was, and has the identifier that the rule of tuple stores names.
-pub record Inserts (segment : ℕ) (body : List ℕ) (old new : PagesView) (tid : Tid) : Type 0 where
-  pub named : IsIdentifier old.slots tid
-  pub chosen : IsTold old.disk → IsChosen old segment (length body) [] tid
-  pub absent : IsTold old.disk → body_at old segment tid ≡ None
-  pub changes : ChangesTuple segment tid (Some body) old new
 
 -- A look at an identifier: whether the tuple there is one of the relation of this number, and if so, its body.
 pub record FindsBody (segment number : ℕ) (tid : Tid) (pages : PagesView) (there : Bool) (bytes : List ℕ) : Type 0 where

@@ -15,10 +15,6 @@ use Rattle.rss_catalog.specs.Catalogs.{CatalogView, IsPending}
 abbrev pub heap_now : PagesView → ℕ
 heap_now pages = mapped_of pages.mapped Home pages.slots + mapped_of pages.mapped Overflow pages.slots
 
--- a home or overflow page, or one of the system space
-abbrev pub IsSystemOrHeap : PageKey → Type 0
-IsSystemOrHeap key = (key.space ≡ System) ⊎ IsHeapKey key
-
 -- an image is listed
 pub record HasImage (listing : Listing) : Type 0 where
   pub number : ℕ

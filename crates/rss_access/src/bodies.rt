@@ -1,44 +1,50 @@
 // The bodies of tuples.
-ghost use Rattle.std.specs.Prelude.{◌≡◌, ◌≤◌, [], Some, None, All, IfOk, IfSome, List};
-ghost use Rattle.rss_base.specs.TupleTypes.{kinds, misfit, width, most_width, IsStorable};
+ghost use Rattle.std.specs.Prelude.{◌≡◌, ℕ, true, is_some, None, Some, IfOk, IfSome, List, option_copied};
+ghost use Rattle.rss_base.specs.TupleTypes.{kinds};
+ghost use Rattle.rss_base.specs.Listings.{relation_at};
+ghost use Rattle.rss_base.specs.declared.relation.RelationEntry.{RelationEntry as Entry};
 ghost use Rattle.rss_base.specs.declared.value.Value.{Value as FieldValue};
-ghost use Rattle.rss_model.specs.Store.{plain_body as body_of};
-ghost use Rattle.rss_access.specs.Bodies.{IsBodyOf};
+ghost use Rattle.rss_access.specs.Bodies.{HoldsBytes, IsBodyOf};
 
-use rss_base::{Body, FieldDef, Tuple};
-use rss_value::{decode, encode};
+use rss_base::Tuple;
+use rss_catalog::Catalog;
+use rss_members::prefix_len;
+use rss_value::decode;
 use std::alloc::{AllocError, Global};
 
-/// The body of a tuple of the relation of this number, which has these fields.
-pub fn body_of(number: u8, fields: &[FieldDef], tuple: &Tuple) -> Body
-    requires fit { misfit (kinds fields.now) tuple.now ≡ None }
-    requires narrow { width (kinds fields.now) ≤ most_width }
-    ensures is { result ≡ body_of number tuple.now }
-    ensures storable { All IsStorable tuple.now }
+/// The bytes of a tuple's values in a body of the relation of this number: behind the number and the
+/// blocks of its links.
+pub(crate) fn values_in<'a>(catalog: &Catalog, number: u8, body: &'a [u8]) -> Option<&'a [u8]>
+    ensures some { IfSome (option_copied result)
+        (HoldsBytes catalog.now.listing number body.entry.now) }
+    ensures none { result ≡ None → (bytes : List ℕ)
+        → HoldsBytes catalog.now.listing number body.entry.now bytes → ⊥ }
 {
-    let mut body = Body::new();
-    body.push(number);
-    encode(fields, tuple, &mut body);
-    body
+    let (first, rest) = body.split_first()?;
+    if *first != number {
+        return None;
+    }
+    rest.get(prefix_len(catalog, number)..)
 }
 
-/// The tuple that a body is of, where its relation has this number and these fields.
+/// The tuple that a body is of, where that is one of the relation of this number.
 pub fn tuple_of(
     alloc: Global,
+    catalog: &Catalog,
     number: u8,
-    fields: &[FieldDef],
     body: &[u8],
 ) -> Result<Option<Tuple>, AllocError>
-    ensures some { IfOk result (λ tuple. IfSome tuple
-        (λ values. IsBodyOf number (kinds fields.now) values body.now)) }
-    ensures exact { IfOk result (λ tuple. (values : List FieldValue)
-        → IsBodyOf number (kinds fields.now) values body.now → tuple ≡ Some values) }
+    requires { is_some (relation_at catalog.now.listing number) ≡ true }
+    ensures some { (relation : Entry) → relation_at catalog.now.listing number ≡ Some relation
+        → IfOk result (λ tuple. IfSome tuple (λ values.
+        IsBodyOf catalog.now.listing number (kinds relation.fields) values body.now)) }
+    ensures exact { (relation : Entry) → relation_at catalog.now.listing number ≡ Some relation
+        → IfOk result (λ tuple. (values : List FieldValue)
+        → IsBodyOf catalog.now.listing number (kinds relation.fields) values body.now
+        → tuple ≡ Some values) }
 {
-    let Some((first, values)) = body.split_first() else {
+    let Some(values) = values_in(catalog, number, body) else {
         return Ok(None);
     };
-    if *first != number {
-        return Ok(None);
-    }
-    decode(alloc, fields, values)
+    decode(alloc, catalog.relation(number).fields.as_slice(), values)
 }

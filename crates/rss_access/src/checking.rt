@@ -16,6 +16,7 @@ ghost use Rattle.rss_entries.specs.Keyed.{kinds_of};
 ghost use Rattle.rss_access.specs.Changes.{both};
 ghost use Rattle.rss_access.specs.Checking.{ShowsThem, ShowsNone, LooksAt, HasEntry, HasEntryOf, HasEntries};
 
+use crate::bodies::values_in;
 use crate::rooms::image_width;
 use crate::tuples::find;
 use rss_base::{Body, Key, PageFault, Pages, Place, Tid};
@@ -71,7 +72,7 @@ pub fn check_image<P: Pages>(
     if is_doubled(entry.is_unique, census.repeats) {
         return Err(damaged);
     }
-    if !has_entries(tuples, &image, key, entry.relation)? {
+    if !has_entries(tuples, catalog, &image, key, entry.relation)? {
         return Err(damaged);
     }
     Ok(census.pages)
@@ -88,6 +89,7 @@ fn is_doubled(is_unique: bool, repeats: Option<Tid>) -> bool
 /// Whether an image has the entry of each tuple of the relation of this number.
 fn has_entries<P: Pages>(
     tuples: &mut Store<P>,
+    catalog: &Catalog,
     image: &Image,
     key: KeyFields<'_>,
     number: u8,
@@ -101,15 +103,15 @@ fn has_entries<P: Pages>(
     requires there { IsTold (P.view tuples.old.pages).disk
         → ∥ HasImage image.now (P.view tuples.old.pages).held ∥₁ }
     ensures all { IfOk result (λ has. has ≡ true → IsTold (P.view tuples.old.pages).disk
-        → HasEntries (kinds_of key.entry) number image.now (P.view tuples.old.pages)) }
+        → HasEntries catalog.now.listing (kinds_of key.entry) number image.now (P.view tuples.old.pages)) }
     ensures none { IfOk result (λ has. has ≡ false → IsTold (P.view tuples.old.pages).disk
-        → HasEntries (kinds_of key.entry) number image.now (P.view tuples.old.pages) → ⊥) }
+        → HasEntries catalog.now.listing (kinds_of key.entry) number image.now (P.view tuples.old.pages) → ⊥) }
     ensures did { (most : ℕ) × PagesCall no_page most most
         (P.view tuples.old.pages) (P.view tuples.new.pages) result }
 {
     let mut last = None;
     while let Some(tid) = tuples.next_live(image.segment, last)? {
-        if !has_entry(tuples, image, key, number, tid)? {
+        if !has_entry(tuples, catalog, image, key, number, tid)? {
             return Ok(false);
         }
         last = Some(tid);
@@ -121,6 +123,7 @@ fn has_entries<P: Pages>(
 /// relation of this number.
 fn has_entry<P: Pages>(
     tuples: &mut Store<P>,
+    catalog: &Catalog,
     image: &Image,
     key: KeyFields<'_>,
     number: u8,
@@ -134,9 +137,9 @@ fn has_entry<P: Pages>(
     requires there { IsTold (P.view tuples.old.pages).disk
         → ∥ HasImage image.now (P.view tuples.old.pages).held ∥₁ }
     ensures has { IfOk result (λ has. has ≡ true → IsTold (P.view tuples.old.pages).disk
-        → HasEntryOf (kinds_of key.entry) number tid image.now (P.view tuples.old.pages)) }
+        → HasEntryOf catalog.now.listing (kinds_of key.entry) number tid image.now (P.view tuples.old.pages)) }
     ensures lacks { IfOk result (λ has. has ≡ false → IsTold (P.view tuples.old.pages).disk
-        → HasEntryOf (kinds_of key.entry) number tid image.now (P.view tuples.old.pages) → ⊥) }
+        → HasEntryOf catalog.now.listing (kinds_of key.entry) number tid image.now (P.view tuples.old.pages) → ⊥) }
     ensures did { (most : ℕ) × PagesCall no_page most most
         (P.view tuples.old.pages) (P.view tuples.new.pages) result }
 {
@@ -144,9 +147,9 @@ fn has_entry<P: Pages>(
     if !find(tuples, image.segment, number, tid, &mut body)? {
         return Ok(true);
     }
-    match body.as_slice().split_first() {
-        Some((_, bytes)) => has_pair(&mut tuples.pages, image, key, tid, bytes),
-        None => Ok(true),
+    match values_in(catalog, number, body.as_slice()) {
+        Some(bytes) => has_pair(&mut tuples.pages, image, key, tid, bytes),
+        None => Ok(false),
     }
 }
 

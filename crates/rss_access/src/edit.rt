@@ -1,15 +1,23 @@
-// A change of a tuple, whose bytes are lent.
-ghost use Rattle.std.specs.Prelude.{◌≡◌, ◌<◌, ◌∷◌, ℕ, List, Option, true, length, None, IfSome};
+// A change of a tuple or of a chain, whose bytes are lent.
+ghost use Rattle.std.specs.Prelude.{◌≡◌, ◌≤◌, ◌+◌, ◌∷◌, ◌++◌, ℕ, List, Option, true, length, None, IfSome};
+ghost use Rattle.rss_base.specs.Prefixes.{prefix_size};
 ghost use Rattle.rss_tuple.specs.Finding.{IsFetched};
 ghost use Rattle.rss_tuple.specs.Heaps.{body_most};
-ghost use Rattle.rss_access.specs.Changes.{IsTupleRecord, ReverseMeans, MayBecome, MayCount, body_before, body_after, reversed, count_after};
-ghost use Rattle.rss_access.specs.Edits.{told_by, body_lent};
+ghost use Rattle.rss_members.specs.Members.{blank_prefix};
+ghost use Rattle.rss_access.specs.Told.{ReverseMeans, MayBecome, MayCount, values_before, values_after, reversed, count_after};
+ghost use Rattle.rss_access.specs.Edits.{told_of, told_by, values_lent};
+ghost use Rattle.rss_access.specs.Alterations.{told_as, BeginsWith, IsFront, IsFound, IsNotFound};
 
 use rss_base::{Body, Change, FieldDef, PAGE_ENTRIES, Tid};
+use rss_catalog::Catalog;
+use rss_members::{Membership, prefix_len, push_blank_prefix};
 use rss_value::spells;
 
 /// How many tuples a relation has at most.
 pub const TUPLES_MOST: u32 = 1 << 20;
+
+/// No prefix of a tuple has more bytes, by how many links its relation may be in.
+const PREFIX_MOST: usize = 16 * 18;
 
 /// What becomes of a tuple, with the bytes of its values.
 #[derive(Clone, Copy)]
@@ -27,48 +35,15 @@ pub(crate) struct TupleChange<'a> {
     pub(crate) edit: Edit<'a>,
 }
 
-impl<'a> TupleChange<'a> {
-    /// The change that a record tells.
-    pub(crate) fn of(change: &'a Change) -> Self
-        requires { IsTupleRecord change.now }
-        ensures { told_by result ≡ change.now }
-    {
-        match change {
-            Change::Insert {
-                relation,
-                tid,
-                values,
-            } => TupleChange {
-                number: *relation,
-                tid: *tid,
-                edit: Edit::Insert(values.as_slice()),
-            },
-            Change::Delete {
-                relation,
-                tid,
-                values,
-            } => TupleChange {
-                number: *relation,
-                tid: *tid,
-                edit: Edit::Delete(values.as_slice()),
-            },
-            Change::Update {
-                relation,
-                tid,
-                from,
-                to,
-            } => TupleChange {
-                number: *relation,
-                tid: *tid,
-                edit: Edit::Update {
-                    from: from.as_slice(),
-                    to: to.as_slice(),
-                },
-            },
-            Change::Connect { .. } | Change::Disconnect { .. } => unreachable!(),
-        }
-    }
+/// A change of a tuple or of a chain.
+#[derive(Clone, Copy)]
+pub(crate) enum Alteration<'a> {
+    Tuple(TupleChange<'a>),
+    Connect(Membership),
+    Disconnect(Membership),
+}
 
+impl<'a> TupleChange<'a> {
     /// The change turned round: what it finds becomes what it leaves.
     pub(crate) fn reversed(self) -> Self
         ensures is { told_by result ≡ reversed (told_by self.entry) }
@@ -88,7 +63,7 @@ impl<'a> TupleChange<'a> {
 
     /// The bytes of the tuple's values before the change, if there is one then.
     pub(crate) fn was(self) -> Option<&'a [u8]>
-        ensures { body_before (told_by self.entry) ≡ body_lent self.entry.number result }
+        ensures { values_before (told_by self.entry) ≡ values_lent result }
     {
         match self.edit {
             Edit::Insert(_) => None,
@@ -102,7 +77,7 @@ impl<'a> TupleChange<'a> {
 
     /// And after it.
     pub(crate) fn next(self) -> Option<&'a [u8]>
-        ensures { body_after (told_by self.entry) ≡ body_lent self.entry.number result }
+        ensures { values_after (told_by self.entry) ≡ values_lent result }
     {
         match self.edit {
             Edit::Delete(_) => None,
@@ -115,12 +90,17 @@ impl<'a> TupleChange<'a> {
     }
 
     /// Whether a tuple of a relation with these fields, in a store of so many slots, may have this
-    /// identifier and these values.
-    pub(crate) fn may_become(self, slots: u32, fields: &[FieldDef]) -> bool
-        ensures yes { result ≡ true → MayBecome slots fields.now (told_by self.entry) }
-        ensures no { MayBecome slots fields.now (told_by self.entry) → result ≡ true }
+    /// identifier and these values, and leaves room for them.
+    pub(crate) fn may_become(self, slots: u32, catalog: &Catalog, fields: &[FieldDef]) -> bool
+        ensures yes { result ≡ true
+            → MayBecome slots catalog.now.listing fields.now (told_by self.entry) }
+        ensures no { MayBecome slots catalog.now.listing fields.now (told_by self.entry)
+            → result ≡ true }
     {
-        if self.tid.page >= slots || usize::from(self.tid.slot) >= PAGE_ENTRIES {
+        if self.tid.page >= slots
+            || usize::from(self.tid.slot) >= PAGE_ENTRIES
+            || prefix_len(catalog, self.number) > PREFIX_MOST
+        {
             return false;
         }
         match self.edit {
@@ -129,24 +109,22 @@ impl<'a> TupleChange<'a> {
         }
     }
 
-    /// Whether a tuple is as the change finds it: by whether there is one, and its body.
-    pub(crate) fn is_body(self, live: bool, body: &[u8]) -> bool
-        ensures found { result ≡ true → (held : Option (List ℕ)) → IsFetched held live body.now
-            → held ≡ body_before (told_by self.entry) }
-        ensures lost { (held : Option (List ℕ)) → IsFetched held live body.now
-            → held ≡ body_before (told_by self.entry) → result ≡ true }
+    /// What stands in the tuple's body before the values, by whether there is a tuple, and its body.
+    /// None where the tuple isn't as the change finds it.
+    pub(crate) fn front_in(self, catalog: &Catalog, live: bool, body: &[u8]) -> Option<Body>
+        requires { 1 + prefix_size catalog.now.listing.links self.number ≤ body_most }
+        ensures front { IfSome result (IsFront catalog.now.listing (told_by self.entry)) }
+        ensures some { IfSome result (λ front. (found : Option (List ℕ))
+            → IsFetched found live body.now → IsFound (told_by self.entry) found front) }
+        ensures none { result ≡ None → (found : Option (List ℕ)) → IsFetched found live body.now
+            → IsNotFound catalog.now.listing (told_by self.entry) found }
     {
-        let values = match self.edit {
-            Edit::Insert(_) => return !live,
-            Edit::Delete(values)
-            | Edit::Update {
-                from: values,
-                to: _,
-            } => values,
-        };
-        match body.split_first() {
-            Some((first, rest)) => live && *first == self.number && rest == values,
-            None => false,
+        match self.edit {
+            Edit::Insert(_) if live => None,
+            Edit::Insert(_) => Some(blank_front(catalog, self.number)),
+            Edit::Delete(values) if live => gone_front(catalog, self.number, body, values),
+            Edit::Update { from, to: _ } if live => kept_front(catalog, self.number, body, from),
+            Edit::Delete(_) | Edit::Update { .. } => None,
         }
     }
 
@@ -165,13 +143,132 @@ impl<'a> TupleChange<'a> {
     }
 }
 
-/// The body of a tuple of the relation of this number with these bytes of values.
-pub(crate) fn body_with(number: u8, values: &[u8]) -> Body
-    requires { length values.now < body_most }
-    ensures { result ≡ number ∷ values.now }
+/// What stands before the values of a tuple of the relation of this number that is in no chain and has
+/// none.
+fn blank_front(catalog: &Catalog, number: u8) -> Body
+    requires { 1 + prefix_size catalog.now.listing.links number ≤ body_most }
+    ensures { result ≡ number ∷ blank_prefix catalog.now.listing number }
 {
-    let mut body = Body::new();
-    body.push(number);
-    body.extend_from_slice(values);
-    body
+    let mut front = Body::new();
+    front.push(number);
+    push_blank_prefix(catalog, number, &mut front);
+    front
+}
+
+/// What stands before these values in a body, where it is that of such a tuple.
+fn gone_front(catalog: &Catalog, number: u8, body: &[u8], values: &[u8]) -> Option<Body>
+    requires { 1 + prefix_size catalog.now.listing.links number ≤ body_most }
+    ensures some { IfSome result (λ front. (front ≡ number ∷ blank_prefix catalog.now.listing number)
+        × (body.now ≡ front ++ values.now)) }
+    ensures none { result ≡ None
+        → body.now ≡ (number ∷ blank_prefix catalog.now.listing number) ++ values.now → ⊥ }
+{
+    let front = blank_front(catalog, number);
+    match body.strip_prefix(front.as_slice()) {
+        Some(rest) if rest == values => Some(front),
+        _ => None,
+    }
+}
+
+/// What stands before these values in the body of a tuple of the relation of this number.
+fn kept_front(catalog: &Catalog, number: u8, body: &[u8], values: &[u8]) -> Option<Body>
+    requires { 1 + prefix_size catalog.now.listing.links number ≤ body_most }
+    ensures some { IfSome result
+        (λ front. BeginsWith catalog.now.listing number front × (body.now ≡ front ++ values.now)) }
+    ensures none { result ≡ None → (front : List ℕ) → BeginsWith catalog.now.listing number front
+        → body.now ≡ front ++ values.now → ⊥ }
+{
+    match body.strip_suffix(values) {
+        Some(kept) if begins_with(catalog, number, kept) => {
+            let mut front = Body::new();
+            front.extend_from_slice(kept);
+            Some(front)
+        }
+        _ => None,
+    }
+}
+
+/// Whether these are a relation's number and as many bytes as its tuples have for links.
+fn begins_with(catalog: &Catalog, number: u8, front: &[u8]) -> bool
+    ensures yes { result ≡ true → BeginsWith catalog.now.listing number front.now }
+    ensures no { BeginsWith catalog.now.listing number front.now → result ≡ true }
+{
+    match front.split_first() {
+        Some((first, rest)) => *first == number && rest.len() == prefix_len(catalog, number),
+        None => false,
+    }
+}
+
+impl<'a> Alteration<'a> {
+    /// A change of a tuple.
+    fn tuple(number: u8, tid: Tid, edit: Edit<'a>) -> Self
+        ensures { told_as result ≡ told_of number tid edit.entry }
+    {
+        Alteration::Tuple(TupleChange { number, tid, edit })
+    }
+
+    /// The change that a record tells.
+    pub(crate) fn of(change: &'a Change) -> Self
+        ensures { told_as result ≡ change.now }
+    {
+        match change {
+            Change::Insert {
+                relation,
+                tid,
+                values,
+            } => Self::tuple(*relation, *tid, Edit::Insert(values.as_slice())),
+            Change::Delete {
+                relation,
+                tid,
+                values,
+            } => Self::tuple(*relation, *tid, Edit::Delete(values.as_slice())),
+            Change::Update {
+                relation,
+                tid,
+                from,
+                to,
+            } => Self::tuple(
+                *relation,
+                *tid,
+                Edit::Update {
+                    from: from.as_slice(),
+                    to: to.as_slice(),
+                },
+            ),
+            Change::Connect {
+                link,
+                parent,
+                child,
+                left,
+            } => Alteration::Connect(Membership {
+                link: *link,
+                parent: *parent,
+                child: *child,
+                left: *left,
+            }),
+            Change::Disconnect {
+                link,
+                parent,
+                child,
+                left,
+            } => Alteration::Disconnect(Membership {
+                link: *link,
+                parent: *parent,
+                child: *child,
+                left: *left,
+            }),
+        }
+    }
+
+    /// The change turned round: what it finds becomes what it leaves.
+    pub(crate) fn reversed(self) -> Self
+        ensures is { told_as result ≡ reversed (told_as self.entry) }
+        ensures means { ReverseMeans (told_as self.entry) (told_as result) }
+    {
+        match self {
+            Alteration::Tuple(change) => Alteration::Tuple(change.reversed()),
+            Alteration::Connect(membership) => Alteration::Disconnect(membership),
+            Alteration::Disconnect(membership) => Alteration::Connect(membership),
+        }
+    }
 }

@@ -1,21 +1,23 @@
 // The entries of all tuples of a relation, for an image that is made over them.
-ghost use Rattle.std.specs.Prelude.{◌≡◌, ◌≤◌, length, All, Err, IfErr, IfOk, IfSome, OnOk};
+ghost use Rattle.std.specs.Prelude.{◌≡◌, ◌≤◌, true, is_some, length, All, Err, Some, IfOk, IfSome, OnOk};
 ghost use Rattle.rss_base.specs.DiskRule.{IsTold};
 ghost use Rattle.rss_base.specs.TupleTypes.{kinds, chosen, key_width, most_key_width};
+ghost use Rattle.rss_base.specs.Listings.{relation_at};
 ghost use Rattle.rss_base.specs.declared.fault.PageFault.TheVariants.{Damaged as PageDamaged};
 ghost use Rattle.rss_base.specs.declared.place.Place.{Place as AnyPlace};
+ghost use Rattle.rss_base.specs.declared.relation.RelationEntry.{RelationEntry as Entry};
 ghost use Rattle.rss_value.specs.Numbers.{IsNumberOf};
-ghost use Rattle.rss_catalog.specs.Catalogs.{CatalogView};
 ghost use Rattle.rss_image.specs.Images.{pairs_most};
-ghost use Rattle.rss_tuple.specs.Calls.{IsSegment};
 ghost use Rattle.rss_tuple.specs.Heaps.{AreHeaps};
 ghost use Rattle.rss_entries.specs.Building.{AreRising};
 ghost use Rattle.rss_access.specs.Changes.{both};
 ghost use Rattle.rss_access.specs.Filling.{keys_by, IsEntryLong, AreEntries, HasNoTables, SearchesPages, FindsKey, IsMisspelled, entry_order, repeated_key};
 
+use crate::bodies::values_in;
 use crate::edit::TUPLES_MOST;
 use crate::tuples::find;
 use rss_base::{Body, Key, PAGE_ENTRIES, PageFault, Pages, Place, RelationEntry, Tid};
+use rss_catalog::Catalog;
 use rss_tuple::{Store, Tuples};
 use rss_value::{compare_keys, key as write_key, spells};
 use std::alloc::Global;
@@ -27,31 +29,36 @@ use std::cmp::Ordering;
 pub fn entries_of<P: Pages>(
     alloc: Global,
     tuples: &mut Store<P>,
-    relation: &RelationEntry,
+    catalog: &Catalog,
     number: u8,
     which: &[u8],
 ) -> Result<Vec<(Key, Tid)>, PageFault>
-    requires segment { IsSegment relation.now.segment }
-    requires numbers { All (IsNumberOf relation.now.fields) which.now }
-    requires narrow { key_width (chosen which.now (kinds relation.now.fields)) ≤ most_key_width }
+    requires there { is_some (relation_at catalog.now.listing number) ≡ true }
+    requires numbers { (relation : Entry) → relation_at catalog.now.listing number ≡ Some relation
+        → All (IsNumberOf relation.fields) which.now }
+    requires narrow { (relation : Entry) → relation_at catalog.now.listing number ≡ Some relation
+        → key_width (chosen which.now (kinds relation.fields)) ≤ most_key_width }
     requires heaps { IsTold (P.view tuples.old.pages).disk → AreHeaps (P.view tuples.old.pages) }
-    ensures long { IfOk result (λ entries.
-        All (IsEntryLong (keys_by relation.now which.now)) entries.items) }
-    ensures few { IfOk result (λ entries. (length entries.items ≤ relation.now.live)
+    ensures long { (relation : Entry) → relation_at catalog.now.listing number ≡ Some relation
+        → IfOk result (λ entries. All (IsEntryLong (keys_by relation which.now)) entries.items) }
+    ensures few { (relation : Entry) → relation_at catalog.now.listing number ≡ Some relation
+        → IfOk result (λ entries. (length entries.items ≤ relation.live)
         × (length entries.items ≤ pairs_most)) }
-    ensures are { IfOk result (λ entries. IsTold (P.view tuples.old.pages).disk
-        → (catalog : CatalogView) → AreEntries (both (P.view tuples.old.pages) catalog)
-        number relation.now which.now entries.items) }
+    ensures are { (relation : Entry) → IfOk result (λ entries.
+        IsTold (P.view tuples.old.pages).disk
+        → AreEntries (both (P.view tuples.old.pages) catalog.now)
+        number relation which.now entries.items) }
     ensures rising { IfOk result (λ entries. AreRising entries.items) }
-    ensures fault { (place : AnyPlace) → result ≡ Err (PageDamaged place)
-        → IsTold (P.view tuples.old.pages).disk → (catalog : CatalogView)
-        → HasNoTables (both (P.view tuples.old.pages) catalog) number relation.now }
+    ensures fault { (relation : Entry) (place : AnyPlace) → result ≡ Err (PageDamaged place)
+        → IsTold (P.view tuples.old.pages).disk
+        → HasNoTables (both (P.view tuples.old.pages) catalog.now) number relation }
     ensures heaps { OnOk result (IsTold (P.view tuples.old.pages).disk
         → AreHeaps (P.view tuples.new.pages)) }
     ensures did { SearchesPages (P.view tuples.old.pages) (P.view tuples.new.pages) result }
 {
     // A number of four bytes, which bounds those of pages.
     let _slots = tuples.pages.slots();
+    let relation = catalog.relation(number);
     let damaged = PageFault::Damaged(Place::Count(number));
     if relation.live > TUPLES_MOST {
         return Err(damaged);
@@ -62,7 +69,7 @@ pub fn entries_of<P: Pages>(
     };
     let mut last = None;
     while let Some(tid) = tuples.next_live(relation.segment, last)? {
-        if let Some(key) = key_at(tuples, relation, number, which, tid)? {
+        if let Some(key) = key_at(tuples, catalog, relation, number, which, tid)? {
             if entries.len() == most {
                 return Err(damaged);
             }
@@ -76,9 +83,10 @@ pub fn entries_of<P: Pages>(
     Ok(entries)
 }
 
-/// The key of the tuple with this identifier, where it is one of the relation of this number.
+/// The key of the tuple with this identifier, where it is one of this relation, which has this number.
 fn key_at<P: Pages>(
     tuples: &mut Store<P>,
+    catalog: &Catalog,
     relation: &RelationEntry,
     number: u8,
     which: &[u8],
@@ -90,23 +98,24 @@ fn key_at<P: Pages>(
     ensures long { IfOk result (λ found. IfSome found
         (λ key. IsEntryLong (keys_by relation.now which.now) (key, tid))) }
     ensures finds { IfOk result (λ found. IsTold (P.view tuples.old.pages).disk
-        → FindsKey (P.view tuples.old.pages) number relation.now which.now tid found) }
+        → FindsKey (both (P.view tuples.old.pages) catalog.now)
+        number relation.now which.now tid found) }
     ensures fault { (place : AnyPlace) → result ≡ Err (PageDamaged place)
         → IsTold (P.view tuples.old.pages).disk
-        → IsMisspelled (P.view tuples.old.pages) number relation.now tid }
+        → IsMisspelled (both (P.view tuples.old.pages) catalog.now) number relation.now tid }
     ensures did { SearchesPages (P.view tuples.old.pages) (P.view tuples.new.pages) result }
 {
     let mut body = Body::new();
     if !find(tuples, relation.segment, number, tid, &mut body)? {
         return Ok(None);
     }
-    let Some((_, bytes)) = body.as_slice().split_first() else {
-        return Ok(None);
-    };
     let damaged = PageFault::Damaged(Place::Tuple(relation.segment, tid));
     if usize::from(tid.slot) >= PAGE_ENTRIES {
         return Err(damaged);
     }
+    let Some(bytes) = values_in(catalog, number, body.as_slice()) else {
+        return Err(damaged);
+    };
     let fields = relation.fields.as_slice();
     if !spells(fields, bytes) {
         return Err(damaged);

@@ -3,6 +3,7 @@
 
 mod applying;
 mod bodies;
+mod chains;
 mod checking;
 mod edit;
 mod filling;
@@ -13,11 +14,11 @@ mod trees;
 mod tuples;
 
 pub use applying::{apply, undo};
-pub use bodies::{body_of, tuple_of};
+pub use bodies::tuple_of;
 pub use checking::check_image;
 pub use edit::TUPLES_MOST;
 pub use filling::{entries_of, repeated};
 pub use imaging::{find_owner, next_entry};
 pub use rooms::image_bound;
 pub use trees::{fill_image, take_image};
-pub use tuples::{delete, find, find_next, insert, update};
+pub use tuples::{delete, find, find_next, update};

@@ -7,9 +7,10 @@ ghost use Rattle.rss_base.specs.Listings.{relation_at, image_at};
 ghost use Rattle.rss_base.specs.declared.image.ImageEntry.{ImageEntry as AnImage};
 ghost use Rattle.rss_base.specs.declared.relation.RelationEntry.{RelationEntry as Entry};
 ghost use Rattle.rss_entries.specs.Rooms.{images_cost};
-ghost use Rattle.rss_access.specs.Changes.{both, AreValuesOf, image_pages_of, MayMoveAll, MovesAll, AllNodesStay};
+ghost use Rattle.rss_access.specs.Told.{AreValuesOf};
+ghost use Rattle.rss_access.specs.Changes.{both, image_pages_of, MayMoveAll, MovesAll, AllNodesStay};
 ghost use Rattle.rss_access.specs.Edits.{told_by};
-ghost use Rattle.rss_access.specs.Moved.{image_cost, IsImageOf, MayMoveAt, MovesAt, NodesStayAt, Reroots};
+ghost use Rattle.rss_access.specs.Moved.{image_cost, IsImageOf, KeepsKeys, MayMoveAt, MovesAt, NodesStayAt, Reroots, StaysAsItWas};
 ghost use Rattle.rss_access.specs.Relisted.{Rerooted};
 
 use crate::edit::TupleChange;
@@ -37,6 +38,8 @@ pub(crate) fn move_images<P: Pages>(
     ensures nodes { OnOk result (IsTold (P.view pages.old).disk
         → AllNodesStay (both (P.view pages.old) catalog.old) (both (P.view pages.new) catalog.new)
         (told_by change.entry)) }
+    ensures stays { KeepsKeys catalog.old.listing (told_by change.entry)
+        → StaysAsItWas (both (P.view pages.old) catalog.old) (both (P.view pages.new) catalog.new) }
     ensures rerooted { Rerooted catalog.old catalog.new }
     ensures did { PagesCall (image_pages_of (relation_at catalog.old.listing change.entry.number))
         images_cost images_cost (P.view pages.old) (P.view pages.new) result }
@@ -67,6 +70,8 @@ fn move_at<P: Pages>(
     ensures nodes { OnOk result (IsTold (P.view pages.old).disk
         → NodesStayAt number (both (P.view pages.old) catalog.old)
         (both (P.view pages.new) catalog.new) (told_by change.entry)) }
+    ensures stays { KeepsKeys catalog.old.listing (told_by change.entry)
+        → StaysAsItWas (both (P.view pages.old) catalog.old) (both (P.view pages.new) catalog.new) }
     ensures rerooted { Rerooted catalog.old catalog.new }
     ensures did { PagesCall (image_pages_of (relation_at catalog.old.listing change.entry.number))
         image_cost image_cost (P.view pages.old) (P.view pages.new) result }
@@ -106,6 +111,8 @@ fn move_image<P: Pages>(
     ensures nodes { OnOk result (IsTold (P.view pages.old).disk
         → NodesStayAt number (both (P.view pages.old) catalog.old)
         (both (P.view pages.new) catalog.new) (told_by change.entry)) }
+    ensures stays { KeepsKeys catalog.old.listing (told_by change.entry)
+        → StaysAsItWas (both (P.view pages.old) catalog.old) (both (P.view pages.new) catalog.new) }
     ensures rerooted { Rerooted catalog.old catalog.new }
     ensures did { PagesCall (image_pages_of (relation_at catalog.old.listing change.entry.number))
         image_cost image_cost (P.view pages.old) (P.view pages.new) result }
@@ -131,8 +138,10 @@ fn reroot(catalog: &mut Catalog, number: u8, root: u32, levels: u8)
     requires few { number ≤ images_most }
     requires there { is_some (image_at catalog.old.listing number) ≡ true }
     requires low { 1 ≤ levels }
-    ensures { (image : AnImage) → image_at catalog.old.listing number ≡ Some image
+    ensures reroots { (image : AnImage) → image_at catalog.old.listing number ≡ Some image
         → Reroots number root levels image catalog.old catalog.new }
+    ensures same { (image : AnImage) → image_at catalog.old.listing number ≡ Some image
+        → image.root ≡ root → image.levels ≡ levels → catalog.new ≡ catalog.old }
 {
     let image = catalog.image(number);
     if image.root != root || image.levels != levels {

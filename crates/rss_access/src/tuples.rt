@@ -1,46 +1,15 @@
 // Tuples in their pages.
 ghost use Rattle.std.specs.Prelude.{◌≡◌, ℕ, ◌+◌, ◌*◌, ◌≤◌, length, None, Some, IsSome, IfOk, OnOk};
 ghost use Rattle.rss_base.specs.DiskRule.{IsTold};
-ghost use Rattle.rss_base.specs.Paged.{page_key};
 ghost use Rattle.rss_base.specs.Steps.{PagesCall, no_page};
-ghost use Rattle.rss_base.specs.declared.fault.PageFault.TheVariants.{Damaged};
-ghost use Rattle.rss_base.specs.declared.key.Space.TheVariants.{Home};
-ghost use Rattle.rss_base.specs.declared.place.Place.TheVariants.{Page as PagePlace};
 ghost use Rattle.rss_tuple.specs.Calls.{IsSegment, MayPut, MayInsert};
 ghost use Rattle.rss_tuple.specs.TupleSteps.{tuples_in};
 ghost use Rattle.rss_tuple.specs.Checked.{pages_of};
 ghost use Rattle.rss_tuple.specs.Heaps.{AreHeaps};
-ghost use Rattle.rss_access.specs.Tuples.{body_at, CanChange, ChangesTuple, Inserts, FindsBody, FindsNextBody};
+ghost use Rattle.rss_access.specs.Tuples.{body_at, CanChange, ChangesTuple, FindsBody, FindsNextBody};
 
-use rss_base::{Body, PageFault, PageKey, Pages, Place, Space, Tid};
+use rss_base::{Body, PageFault, Pages, Tid};
 use rss_tuple::{Store, Tuples};
-
-/// Where a device that doesn't tell its contents gave pages that no store has.
-fn damaged(segment: u8) -> PageFault
-    ensures { result ≡ Damaged (PagePlace (page_key segment Home 0)) }
-{
-    PageFault::Damaged(Place::Page(PageKey {
-        segment,
-        space: Space::Home,
-        number: 0,
-    }))
-}
-
-/// Puts a tuple with this body into a segment, and answers the identifier that it got.
-pub fn insert<P: Pages>(tuples: &mut Store<P>, segment: u8, body: &[u8]) -> Result<Tid, PageFault>
-    requires may { CanChange (P.view tuples.old.pages) }
-    requires put { MayPut segment (length body.now) }
-    ensures inserts { IfOk result
-        (Inserts segment body.now (P.view tuples.old.pages) (P.view tuples.new.pages)) }
-    ensures did { PagesCall (pages_of segment) (4 * (P.view tuples.old.pages).slots + 4)
-        (4 * (P.view tuples.old.pages).slots + 4)
-        (P.view tuples.old.pages) (P.view tuples.new.pages) result }
-{
-    match tuples.insert(segment, body, &[])? {
-        Some(tid) => Ok(tid),
-        None => Err(damaged(segment)),
-    }
-}
 
 /// Puts a tuple with this body at an identifier that none has.
 pub(crate) fn put_at<P: Pages>(

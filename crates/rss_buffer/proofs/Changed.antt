@@ -146,9 +146,6 @@ Reslots-gained {before = before} {old = old} {new = new} {key = key} table same 
     (LacksPage-unmapped old.current key (ap (λ (m : Maps). mapped_by m.current key) same ∙ unmapped))
     gains
 
-gained : (old new : Maps) (key : PageKey) (gains : GainsPage old new key) → owner_of new.current gains.slot ≡ Some key
-gained old new key gains = ap (λ (owners : Owners). owner_of owners gains.slot) gains.current ∙ get_or-set_same old.current gains.slot (Some key) None gains.free.within
-
 -- ---- which pages are mapped, and what they hold
 
 pub with_mapped-same : (mapped : Mapped) (key : PageKey) → mapped key ≡ true → with_mapped mapped key true ≡ mapped

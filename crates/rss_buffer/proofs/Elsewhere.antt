@@ -17,7 +17,7 @@ use Rattle.rss_base.specs.StoredPages.{slot_of}
 use Rattle.rss_buffer.specs.Buffered.{BufferView, NoneChanged, AreClean, StaysFixed, HoldsMapAt, IsAtStage, AreNotesOf, IsBuffer}
 use Rattle.rss_buffer.specs.Saved.{unsynced}
 use Rattle.rss_buffer.proofs.Loose.{fixed_page}
-use Rattle.rss_buffer.proofs.Turns.{IsBuffer-after, IsBuffer-beside}
+use Rattle.rss_buffer.proofs.Turns.{IsBuffer-after}
 use Rattle.rss_buffer.specs.declared.stage.Stage.{Stage}
 use Rattle.rss_buffer.specs.declared.stage.Stage.TheVariants.{Changing, Saved, Switched}
 
@@ -129,11 +129,6 @@ fixed_itself first shadow pages = record { size = refl; pages = λ q bytes is. (
 
 pub fixed_synced : (disk : Disk) (first : ℕ) (shadow : List (Option PageKey)) → Told disk (LeavesOnly disk) → Told disk (StaysFixed disk first shadow)
 fixed_synced disk first shadow only = λ pages is image left. subst (λ (p : Pages). HasFixed (fixed_by first shadow (Some pages)) p) (sym (only pages is image left)) (fixed_itself first shadow pages)
-
--- once a stop leaves only what a read gives
-pub buffer_synced : {b : BufferView} {area : ℕ} {stage : Stage} → IsBuffer b → Told b.device.disk (LeavesOnly b.device.disk) → IsAtStage (record b { settled = true; stage = stage }) → IsBuffer (record b { settled = true; area = area; stage = stage })
-buffer_synced {b = b} buffer only at_stage =
-    IsBuffer-beside (IsBuffer-after buffer refl buffer.frames_hold buffer.clean (λ is. fixed_synced b.device.disk b.first b.maps.shadow only) at_stage) buffer.noted
 
 -- a buffer with nothing in memory, of one map
 pub buffer_new : (b : BufferView) → least_frames ≤ b.room → ((key : PageKey) → b.frames key ≡ None) → b.maps.shadow ≡ b.maps.current → b.stage ≡ Changing → IsTable b.maps.current → 2 * page_count b.maps.current ≤ length b.maps.current → b.first ≡ slots_at (length b.maps.current) b.log_pages → b.device.size ≡ b.first + length b.maps.current → AreNotesOf b.maps.current b.notes → Told b.device.disk (LeavesOnly b.device.disk) → IsBuffer b

@@ -1,16 +1,14 @@
 -- How calls follow one another by which pages are saved.
 use Rattle.std.proofs.Common.{◌≡◌, ℕ, Bool, false, List, Option, Some, None, refl, sym, ◌∙◌, ap, arith}
-use Rattle.std.specs.Prelude.{is_none, option_map, unwrap_or, Err}
+use Rattle.std.specs.Prelude.{is_none, option_map, unwrap_or}
 use Rattle.rss_base.specs.PageMap.{owner_of}
-use Rattle.rss_base.specs.Paged.{Backing, HasPageCause}
+use Rattle.rss_base.specs.Paged.{Backing}
 use Rattle.rss_base.specs.Steps.{PagesView, NoneChanged}
 use Rattle.rss_base.specs.StoredPages.{slot_of}
-use Rattle.rss_base.specs.declared.fault.PageFault.{PageFault}
-use Rattle.rss_base.specs.declared.fault.PageFault.TheVariants.{Device as DeviceFailed, Damaged, NoMemory}
 use Rattle.rss_base.specs.declared.key.PageKey.{PageKey}
 use Rattle.rss_base.specs.declared.root.Root.{Root}
 use Rattle.rss_base.proofs.Keys.{owner_of-slot_of}
-use Rattle.rss_buffer.specs.Saving.{SavingView, changed_by, AreSaveable, IsFresh, SavingStep, SavingCall}
+use Rattle.rss_buffer.specs.Saving.{SavingView, changed_by, AreSaveable, IsFresh, SavingStep}
 
 -- one call after another
 pub saving_then : {old mid new : PagesView} {before between after : SavingView} → SavingStep old mid before between → SavingStep mid new between after → SavingStep old new before after
@@ -40,15 +38,3 @@ none_changed {pages = pages} {saving = saving} saveable saved key =
 -- and so right after the pages were read
 pub fresh_unchanged : {root : Root} {table : List (Option PageKey)} {frames writes : ℕ} {pages : PagesView} {saving : SavingView} → IsFresh root table frames writes pages saving → AreSaveable pages saving → NoneChanged pages
 fresh_unchanged fresh saveable = none_changed saveable (ap (λ (b : Backing). b.shadow) fresh.backing ∙ sym fresh.current)
-
--- it fails by the device alone
-pub saving_fails : {T : Type 0} {old new : PagesView} {before after : SavingView} {fault : PageFault} → SavingCall {T = T} old new before after (Err fault) → fault ≡ DeviceFailed
-saving_fails call = call.fault
-
-pub saving_cause : {T : Type 0} {old new : PagesView} {before after : SavingView} {fault : PageFault} → SavingCall {T = T} old new before after (Err fault) → HasPageCause {T = T} old.disk old.faults new.faults (Err fault)
-saving_cause {fault = fault} call = record {
-  later = call.step.later;
-  failed = λ is. call.cause refl;
-  sound = λ place is told. let device : fault ≡ DeviceFailed = call.fault in let damaged : fault ≡ Damaged place = cc in absurd (cc);
-  memory = λ is. let device : fault ≡ DeviceFailed = call.fault in let lacks : fault ≡ NoMemory = cc in absurd (cc);
-}

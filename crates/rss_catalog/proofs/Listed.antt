@@ -364,10 +364,6 @@ AreSafeImages listing = (number : ℕ) (image : ImageEntry) → image_at listing
 pub safe_image : (listing : Listing) (image : ImageEntry) → ImageFits listing image → IsSafeImage listing image
 safe_image listing image fit = record { relation = fit.relation; listed = fit.listed; some = fit.some; few = fit.few; within = fit.within; narrow = fit.narrow; low = fit.some_levels }
 
--- it is with another root, too
-pub safe_root : (listing : Listing) (root levels : ℕ) (image : ImageEntry) → 1 ≤ levels → IsSafeImage listing image → IsSafeImage listing (with_root root levels image)
-safe_root listing root levels image low safe = record { relation = safe.relation; listed = safe.listed; some = safe.some; few = safe.few; within = safe.within; narrow = safe.narrow; low = low }
-
 safe_images_keep : (old new : Listing) → new.images ≡ old.images → KeepsFields old new → AreSafeImages old → AreSafeImages new
 safe_images_keep old new same keeps safe number image is =
     let there : image_at old number ≡ Some image = ap (λ (l : List (Option ImageEntry)). numbered l number) (sym same) ∙ is in
@@ -423,11 +419,6 @@ pub none_behind_put : (images : List (Option ImageEntry)) (last number : ℕ) (i
 none_behind_put images last number item low none k past = with_other images number k item low (λ same. omega (arith, past, same)) ∙ none k (omega (arith, past))
 
 -- ---- what a listed relation is
-
--- a relation has one number by its name
-pub relation_once : (listing : Listing) (one other : ℕ) (a b : RelationEntry) → ListingFits listing → relation_at listing one ≡ Some a → relation_at listing other ≡ Some b → a.name ≡ b.name → one ≡ other
-relation_once listing one other a b fits is_one is_other same =
-    fits.relations_once one other b.name (name_listed listing one a is_one ∙ ap Some same) (name_listed listing other b is_other)
 
 -- the number of its segment is one of the store's
 pub segment_within : (listing : Listing) (relation : RelationEntry) → length listing.segments ≡ segments → EntryFits listing relation → (1 ≤ relation.segment) × (relation.segment ≤ segments)

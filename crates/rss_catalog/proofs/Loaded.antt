@@ -28,7 +28,7 @@ use Rattle.rss_base.specs.declared.key.Space.TheVariants.{System}
 use Rattle.rss_base.proofs.Looking.{checks_then, checks_as, checks_within}
 use Rattle.rss_catalog.specs.Catalogs.{IsCatalogPlace, Loads, none_pending}
 use Rattle.rss_catalog.specs.Reading.{pieces, segment_of, relation_of, entry_of, fields_of, HasFewFields}
-use Rattle.rss_catalog.specs.Loading.{SpellsNone, IsFlawed, HasPage, LoadsSegments, Form, relation_form, image_form, link_form, page_with, part, IsFormed, HasForm, AddsPage, LoadsEntries}
+use Rattle.rss_catalog.specs.Loading.{SpellsNone, IsFlawed, HasPage, LoadsSegments, Form, relation_form, image_form, link_form, page_with, part, HasForm, AddsPage, LoadsEntries}
 use Rattle.rss_catalog.specs.Checking.{listing_of}
 use Rattle.rss_catalog.proofs.Plain.{links_page_is, images_page_is}
 use Rattle.rss_catalog.proofs.Pieces.{length-pieces}
@@ -107,12 +107,6 @@ few_eight page = All-map HasFewFields relation_of (pieces 512 8 page) (λ k d lo
 pub last_read : {X : Type 0} (items read now new : List (Option X)) (first : ℕ) → new ≡ items ++ read → now ≡ new → first ≡ length items → take (length now - first) (drop first now) ≡ read
 last_read items read now new first is same here =
     take_rest now first ∙ ap (drop first) (same ∙ is) ∙ drop_at items read first (sym here)
-
--- a page that isn't what its entries are spelled by is no listing's
-pub misspelled : {X : Type 0} (form : Form X) (old : PagesView) (number : ℕ) (page : List ℕ) → IsFormed form number → HasPage old number page → number < system_pages → (page ≡ page_with form (form.read page) → ⊥) → SpellsNone old
-misspelled form old number page formed has low other = λ told listing fits holds.
-    let so = spelled_so old number page listing has low told holds in
-    other (so ∙ formed listing fits ∙ ap (λ (bytes : List ℕ). page_with form (form.read bytes)) (sym so))
 
 -- one page more of a width
 width_more : (n k : ℕ) → n * (k + 1) ≡ n * k + n
@@ -208,13 +202,6 @@ pub no_device : {T U : Type 0} {fault : PageFault} {place : Place} {result : Res
 no_device {fault = fault} {place = place} is error = let same : Damaged place ≡ DeviceFailed = cc in absurd (cc)
 
 -- ---- the whole catalog
-
-pub segments_after : {old new : PagesView} {items : List (Option Name)} → SamePages old new → LoadsSegments old items → LoadsSegments new items
-segments_after same so = record {
-  places = so.places;
-  has = has_after same so.has;
-  only = λ told listing fits holds. so.only (same.told.1 told) listing fits (subst (λ (h : Held). HoldsListing h listing) (same.held (same.told.1 told)) holds);
-}
 
 -- all pages of a listing were found
 pub record LoadsAll (pages : PagesView) (listing : Listing) : Type 0 where

@@ -1,16 +1,15 @@
 -- Listings that give the same pages are the same, and the pages of the empty one are zeros.
-use Rattle.std.proofs.Common.{◌≡◌, ℕ, ◌+◌, ◌-◌, ◌*◌, ◌/◌, ◌%◌, ◌<◌, ◌≤◌, List, length, take, drop, get_or, replicate, None, refl, sym, ◌∙◌, ap, inl, inr, arith}
-use Rattle.std.specs.Prelude.{map, flat_map, min}
-use Rattle.std.proofs.lemmas.Bool.{cases_eq, cases_lt}
+use Rattle.std.proofs.Common.{◌≡◌, ℕ, ◌+◌, ◌-◌, ◌*◌, ◌/◌, ◌%◌, ◌<◌, ◌≤◌, List, length, take, drop, get_or, sym, ◌∙◌, ap, inl, inr, arith}
+use Rattle.std.specs.Prelude.{map}
+use Rattle.std.proofs.lemmas.Bool.{cases_lt}
 use Rattle.std.proofs.lemmas.Option.{same_Some}
-use Rattle.std.proofs.lemmas.List.{same_lists, get_or-take, get_or-drop, drop-replicate}
+use Rattle.std.proofs.lemmas.List.{same_lists, get_or-take, get_or-drop}
 use Rattle.std.proofs.Math.Nat.{mul-le-mul_left}
-use Rattle.rss_base.specs.Sizes.{system_pages, zero_page}
+use Rattle.rss_base.specs.Sizes.{system_pages}
 use Rattle.rss_base.specs.Paged.{Held}
-use Rattle.rss_base.specs.Listings.{Listing, ListingFits, HoldsListing, catalog_page, relations_on, no_listing, segment_spelled, relation_spelled}
+use Rattle.rss_base.specs.Listings.{Listing, ListingFits, HoldsListing, catalog_page}
 use Rattle.rss_catalog.specs.Reading.{pieces, segment_of, relation_of, image_of, link_of}
-use Rattle.rss_catalog.proofs.Plain.{nones_spelled, padded_zeros, take_some, zeros_past}
-use Rattle.rss_catalog.proofs.Read.{segments_back, relations_back, relations_page_is, images_back, links_back}
+use Rattle.rss_catalog.proofs.Read.{segments_back, relations_back, images_back, links_back}
 
 -- a page of one is a page of the other
 same_page : (held : Held) (one other : Listing) → HoldsListing held one → HoldsListing held other → (page : ℕ) → page < system_pages → catalog_page one page ≡ catalog_page other page
@@ -54,19 +53,3 @@ same_listing held one other holds_one holds_other fits_one fits_other =
     images_part one part fits_one low ∙ ap (λ (bytes : List ℕ). map image_of (pieces 64 64 bytes)) (pages (7 + part) (omega (arith, low))) ∙ sym (images_part other part fits_other low)) in
     let links : one.links ≡ other.links = sym (links_back one fits_one) ∙ ap (λ (bytes : List ℕ). map link_of (pieces 64 64 bytes)) (pages 9 (omega arith)) ∙ links_back other fits_other in
     λ i. record { segments = names i; relations = relations i; images = images i; links = links i }
-
--- ---- the pages of the empty listing
-
--- each page of the empty listing is zeros
-pub empty_pages : (page : ℕ) → page < system_pages → catalog_page no_listing page ≡ zero_page
-empty_pages page low = elim (cases_eq page 0) [
-  | inl here ↦ ap (catalog_page no_listing) here ∙ padded_zeros (flat_map segment_spelled (replicate 8 None)) (8 * 16) (nones_spelled segment_spelled 16 refl 8) (omega arith)
-  | inr off ↦ elim (cases_lt 6 page) [
-    | inl past ↦ zeros_past no_listing (record { no_images = refl; no_links = refl }) page past
-    | inr few ↦
-        let from = 8 * (page - 1) in
-        let rest : relations_on no_listing page ≡ replicate (min 8 (48 - from)) None = ap (take 8) (drop-replicate from 48 None) ∙ take_some 8 (48 - from) in
-        relations_page_is no_listing page (omega (arith, off)) few
-        ∙ padded_zeros (flat_map relation_spelled (relations_on no_listing page)) (min 8 (48 - from) * 512) (ap (flat_map relation_spelled) rest ∙ nones_spelled relation_spelled 512 refl (min 8 (48 - from))) (omega arith)
-  ]
-]

@@ -1,5 +1,5 @@
 -- How the pages of a listing are written, one after another.
-use Rattle.std.proofs.Common.{◌≡◌, ℕ, ◌+◌, ◌-◌, ◌*◌, ◌<◌, ◌≤◌, Bool, true, false, cond, List, length, take, drop, get_or, Option, Some, All, refl, sym, ◌∙◌, ap, subst, inl, inr, arith}
+use Rattle.std.proofs.Common.{◌≡◌, ℕ, ◌+◌, ◌-◌, ◌*◌, ◌<◌, ◌≤◌, Bool, true, false, cond, List, length, take, drop, get_or, Option, Some, All, sym, ◌∙◌, ap, subst, inl, inr, arith}
 use Rattle.std.specs.Prelude.{Result, Ok, Err, IsErrAnd, count_by}
 use Rattle.std.proofs.lemmas.Bool.{cases_eq, cases_lt}
 use Rattle.std.proofs.lemmas.List.{get_or_past, take_all, take-append-drop}
@@ -13,7 +13,7 @@ use Rattle.rss_base.specs.declared.relation.RelationEntry.{RelationEntry}
 use Rattle.rss_base.specs.declared.fault.PageFault.{PageFault}
 use Rattle.rss_base.specs.declared.key.PageKey.{PageKey}
 use Rattle.rss_base.specs.declared.key.Space.TheVariants.{System}
-use Rattle.rss_base.proofs.Steps.{rests, then, among, done, fails, then_call, untouched_call, written_here, held_off-with}
+use Rattle.rss_base.proofs.Steps.{then, among, done, fails, then_call, untouched_call, written_here, held_off-with}
 use Rattle.rss_catalog.specs.Catalogs.{CatalogView, IsPending, IsSafe, pending_pages, StoresListing}
 use Rattle.rss_catalog.specs.Reading.{HasFewFields}
 use Rattle.rss_catalog.proofs.Numbered.{has_number}
@@ -41,9 +41,6 @@ pub record StoresBelow (catalog : CatalogView) (number : ℕ) (old now : PagesVi
   pub mapped : now.mapped ≡ old.mapped
   pub wrote : IsTold old.disk → (page : ℕ) → page < number → IsPending catalog page → now.held (page_key 0 System page) ≡ Some (catalog_page catalog.listing page)
   pub step : PagesStep (pending_pages catalog) 0 (count_by (λ b. b) (take number catalog.pending)) old now
-
-pub stored_none : (catalog : CatalogView) (view : PagesView) → StoresBelow catalog 0 view view
-stored_none catalog view = record { mapped = refl; wrote = λ told page low. absurd (omega arith); step = rests view }
 
 -- a page that has not changed isn't written
 pub stored_skip : (catalog : CatalogView) (number : ℕ) (old now : PagesView) → StoresBelow catalog number old now → number < length catalog.pending → get_or catalog.pending number false ≡ false → StoresBelow catalog (number + 1) old now

@@ -6,7 +6,6 @@ ghost use Rattle.std.specs.Prelude.{◌≡◌, true, [], ◌∷◌, IfOk};
 ghost use Rattle.rss_base.specs.declared.value.Value.TheVariants.{Int};
 ghost use Rattle.rss_base.specs.declared.call.Call.TheVariants.{Insert, Fetch};
 ghost use Rattle.rss_base.specs.declared.answer.Reply.TheVariants.{Tid as Identifier, Tuple as Found};
-ghost use Rattle.rss_model.specs.Callers.{is_built};
 ghost use Rattle.rss_model.specs.Defining.{DefinesNames, LocksGranule};
 ghost use Rattle.rss_embed.specs.Made.{Made};
 
@@ -59,7 +58,6 @@ impl From<CallError> for Failure {
 fn ask<E: Engine>(engine: &mut E, call: &Call) -> Result<Reply, Failure>
     requires names { DefinesNames call.now }
     requires granule { LocksGranule call.now }
-    requires built { is_built call.now ≡ true }
     ensures { IfOk result (Made (E.view engine.old) (E.view engine.new) call.now) }
 {
     if engine.calls() >= CALLS_MOST {

@@ -1,9 +1,7 @@
 -- What the list of an image is where a tuple changes, and that it is as long as its relation has tuples.
 use Rattle.std.proofs.Common.{◌≡◌, ◌≢◌, ◌⊎◌, inl, inr, ⊎_elim, ℕ, true, List, length, refl, sym, ◌∙◌, ap, subst}
-use Rattle.std.specs.Prelude.{Option, Some, None, All, Contains, IfSome, is_some, option_map, map as list_map}
-use Rattle.std.proofs.lemmas.List.{length-map}
+use Rattle.std.specs.Prelude.{Option, Some, None, All, Contains, IfSome, is_some, option_map}
 use Rattle.std.proofs.lemmas.Option.{same_Some}
-use Rattle.rss_base.specs.Trees.{Pair}
 use Rattle.rss_base.specs.TupleTypes.{kinds, chosen, misfit, IsStorable}
 use Rattle.rss_base.specs.Listings.{Listing, ListingFits, IsNumberOf}
 use Rattle.rss_base.specs.declared.field.FieldDef.{FieldDef}
@@ -14,11 +12,11 @@ use Rattle.rss_base.specs.declared.item.Item.TheVariants.{Tuple as TupleItem}
 use Rattle.rss_base.specs.declared.image.ImageEntry.{ImageEntry}
 use Rattle.rss_base.specs.declared.relation.RelationEntry.{RelationEntry}
 use Rattle.rss_base.specs.declared.refusal.Kind.TheVariants.{Relation as RelationKind}
-use Rattle.rss_node.specs.Pairs.{pair_bytes, pair_from, IsSpelledTid}
+use Rattle.rss_node.specs.Pairs.{IsSpelledTid}
 use Rattle.rss_model.specs.Items.{Content, Values}
 use Rattle.rss_model.specs.Tables.{RelationDef, Tables, content, fields_in, fields_of}
 use Rattle.rss_model.specs.Images.{image_list, key_kinds}
-use Rattle.rss_model.specs.Store.{Defines, IsListedImage, image_definition, pair_spelled}
+use Rattle.rss_model.specs.Store.{Defines, IsListedImage, image_definition}
 use Rattle.rss_model.proofs.Listed.{listed}
 use Rattle.rss_model.proofs.LogChanging.{by_item, put_here, put_other}
 use Rattle.rss_model.proofs.LogLists.{none_some}
@@ -26,14 +24,13 @@ use Rattle.rss_model.proofs.Mixing.{In}
 use Rattle.rss_model.proofs.Putting.{same_parts, values_of}
 use Rattle.rss_model.proofs.Relisted.{number_of}
 use Rattle.rss_model.proofs.SeenAlike.{entries_same}
-use Rattle.rss_entries.specs.Rooms.{width_of}
 use Rattle.rss_entries.specs.Seeking.{kinds_in}
 use Rattle.rss_entries.specs.Moving.{KeyKinds, pair_with, less, more, moved_pairs, HoldsEntry}
 use Rattle.rss_entries.specs.Images.{key_of, AreTuples, TupleMove, after_move, CanMove}
 use Rattle.rss_entries.proofs.Orders.{Rise, same_pairs, each_of_in, in_contains, with_in, in_with, with_rises, without_in, in_without, without_rises}
 use Rattle.rss_model.proofs.ImageCounts.{entries_counted}
 use Rattle.rss_model.proofs.ImageFields.{fields_are, numbers_are}
-use Rattle.rss_entries.proofs.Shown.{same_tid, Shows, pair_there, tuple_pair, pairs_rise, pairs_said}
+use Rattle.rss_entries.proofs.Shown.{same_tid, Shows, pair_there, tuple_pair, pairs_rise}
 pub use Rattle.rss_entries.proofs.Shown.{byte_list}
 
 -- ---- a list of pairs without a tuple's, and with it
@@ -249,21 +246,3 @@ module _ {listing : Listing} {tables : Tables} (move : TupleMove) (can : CanMove
   list_long number image relation at =
       entries_counted tables relation.name (image_definition image relation).fields (λ tid held there. let of = can.tuples relation.name tid held there in (of.values, of.tuple))
       ∙ can.counts image.relation relation at.within
-
-  pub bytes_long : (number : ℕ) (image : ImageEntry) (relation : RelationEntry) → IsListedImage listing number image relation → length (byte_list tables image relation) ≡ relation.live
-  bytes_long number image relation at =
-      let entries = image_list tables (image_definition image relation) in
-      length-map (list_map (pair_spelled image relation) entries) (λ (pair : Pair). pair_bytes pair.key pair.tid) ∙ length-map entries (pair_spelled image relation) ∙ list_long number image relation at
-
-  -- ---- what the bytes say
-
-  -- before the change
-  pub list_said : (number : ℕ) (image : ImageEntry) (relation : RelationEntry) → IsListedImage listing number image relation
-      → list_map (pair_from (width_of image relation)) (byte_list tables image relation) ≡ list_map (pair_spelled image relation) (image_list tables (image_definition image relation))
-  list_said number image relation at = pairs_said (shows_before number image relation at)
-
-  -- and after it
-  pub moved_said : (number : ℕ) (image : ImageEntry) → IsListedImage listing number image move.relation
-      → list_map (pair_from (width_of image move.relation)) (byte_list (after_move move tables) image move.relation)
-      ≡ list_map (pair_spelled image move.relation) (image_list (after_move move tables) (image_definition image move.relation))
-  moved_said number image at = pairs_said (shows_after number image at)

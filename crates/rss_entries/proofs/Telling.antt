@@ -1,21 +1,17 @@
 -- An image that shows tables spells their list by rows of pairs.
-use Rattle.std.proofs.Common.{◌≡◌, ◌<◌, ℕ, true, List, ◌∙◌, ap}
+use Rattle.std.proofs.Common.{◌≡◌, ◌<◌, ℕ, true}
 use Rattle.std.specs.Prelude.{is_some}
 use Rattle.rss_base.specs.PageMap.{IsKey}
 use Rattle.rss_base.specs.Paged.{Held}
 use Rattle.rss_base.specs.Steps.{PagesView}
-use Rattle.rss_base.specs.TupleTypes.{kinds, chosen}
 use Rattle.rss_base.specs.Listings.{Listing}
 use Rattle.rss_base.specs.declared.key.PageKey.{PageKey}
-use Rattle.rss_base.specs.declared.field.FieldDef.{FieldDef}
 use Rattle.rss_base.specs.declared.image.ImageEntry.{ImageEntry}
 use Rattle.rss_base.specs.declared.relation.RelationEntry.{RelationEntry}
 use Rattle.rss_image.specs.Images.{ImageTree, HasImage}
-use Rattle.rss_model.specs.Tables.{Tables, fields_in}
-use Rattle.rss_model.specs.Images.{key_kinds}
-use Rattle.rss_model.specs.Store.{image_definition}
+use Rattle.rss_model.specs.Tables.{Tables}
 use Rattle.rss_entries.specs.Images.{image_of}
-use Rattle.rss_entries.specs.Seeking.{ShowsImage, kinds_in}
+use Rattle.rss_entries.specs.Seeking.{ShowsImage}
 use Rattle.rss_entries.proofs.Fitting.{fitting_nodes}
 use Rattle.rss_entries.proofs.Lists.{byte_list, listed_shows}
 use Rattle.rss_entries.proofs.Shown.{Shows}
@@ -32,9 +28,3 @@ module _ {listing : Listing} {tables : Tables} {number : ℕ} {image : ImageEntr
   pub has_shown : (view : PagesView) → ShowsImage view.held listing tables number image relation → view.slots < 4294967296 → ((key : PageKey) → is_some (view.held key) ≡ view.mapped key) → ((key : PageKey) → view.mapped key ≡ true → IsKey view.slots key)
       → HasImage (image_of number image relation) view.held
   has_shown view shows few holds allowed = record { pairs = byte_list tables image relation; tree = shown_tree view shows few holds allowed }
-
--- the kinds of its keys' fields by their names are those by their numbers
-pub kinds_shown : {tables : Tables} {image : ImageEntry} {relation : RelationEntry} → Shows tables image relation → key_kinds (fields_in tables.definitions relation.name) (image_definition image relation).fields ≡ kinds_in image relation
-kinds_shown {image = image} {relation = relation} shows =
-    ap (λ (fields : List FieldDef). key_kinds fields (image_definition image relation).fields) shows.fields
-    ∙ ap (λ (numbers : List ℕ). kinds (chosen numbers relation.fields)) shows.numbers

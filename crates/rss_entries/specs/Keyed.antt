@@ -1,6 +1,6 @@
 -- The pair of a key in one image, where there is a key.
-use Rattle.std.specs.Prelude.{◌≡◌, ◌≢◌, ℕ, Bool, true, List, Contains, Option, Some, None, IfSome}
-use Rattle.rss_base.specs.Steps.{PagesView}
+use Rattle.std.specs.Prelude.{◌≡◌, ◌≢◌, ℕ, Bool, true, List, Contains, Option, Some, None, IfSome, option_map}
+use Rattle.rss_base.specs.Steps.{PagesView, PagesStep, no_page}
 use Rattle.rss_base.specs.TupleTypes.{kinds, chosen, key_bytes}
 use Rattle.rss_base.specs.declared.tid.Tid.{Tid}
 use Rattle.rss_base.specs.declared.value.Value.{Value}
@@ -19,6 +19,15 @@ kinds_of key = record { fields = kinds key.fields.now; which = key.which.now }
 -- the key of a tuple with these values
 abbrev pub key_with : KeyKinds → List Value → List ℕ
 key_with key values = key_bytes (chosen key.which key.fields) (chosen key.which values)
+
+-- the values have one key, or there are none before and after
+abbrev pub IsOneKey : KeyKinds → (was next : Option (List Value)) → Type 0
+IsOneKey key was next = option_map (key_with key) was ≡ option_map (key_with key) next
+
+-- The image is as it was, and no page was asked for.
+pub record StaysEntry (before after : Image) (old new : PagesView) : Type 0 where
+  pub image : after ≡ before
+  pub pages : PagesStep no_page 0 0 old new
 
 abbrev pub HasKey : Option (List ℕ) → Tid → List (List ℕ) → Type 0
 HasKey key tid pairs = IfSome key (λ bytes. Contains pairs (pair_bytes bytes tid))

@@ -9,7 +9,7 @@ ghost use Rattle.rss_base.specs.declared.value.Value.{Value as FieldValue};
 ghost use Rattle.rss_value.specs.Numbers.{IsNumberOf};
 ghost use Rattle.rss_node.specs.Nodes.{AreNodes};
 ghost use Rattle.rss_image.specs.Images.{nodes_of, CutsMade, HasSpare};
-ghost use Rattle.rss_entries.specs.Keyed.{kinds_of, key_with, MayCutKey, MayPutKey, CutsKey, PutsKey, MakesKey};
+ghost use Rattle.rss_entries.specs.Keyed.{kinds_of, key_with, IsOneKey, StaysEntry, MayCutKey, MayPutKey, CutsKey, PutsKey, MakesKey};
 ghost use Rattle.rss_entries.specs.Moving.{AreSpelled, MayMove, MovesEntry, MakesEntry};
 
 use rss_base::{FieldDef, Key, PageFault, Pages, Tid};
@@ -60,6 +60,11 @@ pub fn move_entry<P: Pages>(
         → AreSpelled (kinds key.entry.fields.now) (option_copied next.entry) next_values
         → MakesEntry (kinds_of key.entry) tid was_values next_values image.old image.new
         (P.view pages.old) (P.view pages.new)) }
+    ensures stays { (was_values next_values : Option (List FieldValue))
+        → AreSpelled (kinds key.entry.fields.now) (option_copied was.entry) was_values
+        → AreSpelled (kinds key.entry.fields.now) (option_copied next.entry) next_values
+        → IsOneKey (kinds_of key.entry) was_values next_values
+        → StaysEntry image.old image.new (P.view pages.old) (P.view pages.new) }
     ensures did { PagesCall (pages_in image.old.segment ImageSpace) (10 * 255 + 2) (10 * 255 + 2)
         (P.view pages.old) (P.view pages.new) result }
 {

@@ -104,9 +104,6 @@ module _ (of : Nodes) (cells : Cells) (numbered : AreNumbered cells) where
 
 -- ---- pairs and leaves
 
-pair_at : ℕ → Entry → Pair
-pair_at width e = pair_from width e.pair
-
 less_below : (width : ℕ) (a b : List ℕ) → IsWhole width a → IsWhole width b → IsLess a b → IsBelow (pair_from width a) (pair_from width b)
 less_below width a b one two less = sym (whole_cmp width a b one two) ∙ less.is
 

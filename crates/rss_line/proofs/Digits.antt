@@ -1,5 +1,5 @@
 -- A number is read digit by digit.
-use Rattle.std.proofs.Common.{◌≡◌, ◌∙◌, ℕ, zero, suc, ◌+◌, ◌*◌, ◌<◌, ◌≤◌, ◌^◌, List, [], ◌∷◌, drop, get_or, length, Option, Some, None, refl, ap, sym, subst, arith}
+use Rattle.std.proofs.Common.{◌≡◌, ◌∙◌, ℕ, zero, suc, ◌+◌, ◌*◌, ◌<◌, ◌≤◌, ◌^◌, List, [], ◌∷◌, drop, get_or, length, Option, Some, None, ap, sym, subst, arith}
 use Rattle.std.specs.Prelude.{SomeIff, IfSome, IfNone, decimal}
 use Rattle.std.specs.Char.{digit_value}
 use Rattle.std.specs.Str.Parse.{AllDigits, digits_value, digits_value_after}
@@ -17,9 +17,6 @@ pub record Digits (digits left : List ℕ) (number : ℕ) : Type 0 where
   pub from : AllDigits 10 left → AllDigits 10 digits
   pub small : number < 2 ^ 64
 
-pub digits_none : (digits : List ℕ) → Digits digits digits 0
-digits_none digits = record { value = refl; to = λ all. all; from = λ all. all; small = omega arith }
-
 -- a number of more digits is no smaller
 no_smaller : (number : ℕ) (left : List ℕ) → number ≤ digits_value_after 10 number left
 no_smaller number [] = omega arith
@@ -32,9 +29,6 @@ module _ {digits : List ℕ} {i number : ℕ} (reads : Digits digits (drop i dig
   next : Digits digits (digit ∷ drop (i + 1) digits) number
   next = let one : suc i ≡ i + 1 = omega arith in
       subst (λ (left : List ℕ). Digits digits left number) (drop-cons digits i 0 below ∙ ap (λ k. digit ∷ drop k digits) one) reads
-
-  pub digits_more : (digit_value digit < 10) × (number * 10 + digit_value digit < 2 ^ 64) → Digits digits (drop (i + 1) digits) (number * 10 + digit_value digit)
-  digits_more is = record { value = next.value; to = λ all. (next.to all).1; from = λ all. next.from (is.0, all); small = is.1 }
 
   pub digits_stop : ((digit_value digit < 10) × (number * 10 + digit_value digit < 2 ^ 64) → ⊥) → AllDigits 10 digits × (digits_value 10 digits < 2 ^ 64) → ⊥
   digits_stop none (all, small) = none ((next.to all).0, omega (arith, next.value, small, no_smaller (number * 10 + digit_value digit) (drop (i + 1) digits)))

@@ -3,7 +3,6 @@ use Rattle.std.proofs.Common.{◌≡◌, ◌∙◌, ◌⊎◌, inl, inr, ℕ, tr
 use Rattle.std.proofs.lemmas.Bool.{false≢true}
 use Rattle.rss_base.specs.declared.name.Name.{Name}
 use Rattle.rss_base.specs.declared.call.Call.{Call}
-use Rattle.rss_model.specs.Callers.{is_built}
 use Rattle.rss_model.specs.Variables.{Variable}
 use Rattle.rss_model.specs.Script.{AreSpaces, Begins, IsVariable}
 use Rattle.rss_model.specs.Forms.{calls, spots, PlaceForm, IsStatement, IsEmpty, IsShortLine, Spells, IsWords}
@@ -102,23 +101,14 @@ no_line (Err f) some reads is was = record {
 }
 
 -- where one was read, it is there
-pub spelled_line : {names : List Variable} {line : List ℕ} {read : Option Name × Call} → IsShortLine line → ReadsWords (IsStatement names) line (Ok read) → is_built read.1 ≡ true → Spells names line read.0 read.1
-spelled_line short reads built = let (words, has, says) = reads.ok in record { words = words; spaced = has; says = says; short = short; built = built }
+pub spelled_line : {names : List Variable} {line : List ℕ} {read : Option Name × Call} → IsShortLine line → ReadsWords (IsStatement names) line (Ok read) → Spells names line read.0 read.1
+spelled_line short reads = let (words, has, says) = reads.ok in record { words = words; spaced = has; says = says; short = short }
 
 pub ok_same : {T E : Type 0} {x y : T} → ◌≡◌ {A = Result T E} (Ok x) (Ok y) → x ≡ y
 ok_same e = cc
 
 pub call_same : {variable bind : Option Name} {made call : Call} → CallLine variable made ≡ CallLine bind call → (variable ≡ bind) × (made ≡ call)
 call_same e = (cc, cc)
-
--- a call that the engine doesn't make is none
-pub unbuilt_line : {names : List Variable} {line : List ℕ} {read : Option Name × Call} → (IsEmpty line → ⊥) → ReadsWords (IsStatement names) line (Ok read) → is_built read.1 ≡ false → IsWords names line
-unbuilt_line {read = read} some reads unbuilt = record {
-  some = λ blank. some blank.empty;
-  no_call = λ variable call spells.
-      let same = (reads.all spells.words (variable, call) spells.spaced spells.says).0 in
-      false≢true (sym unbuilt ∙ (ap (λ (x : Option Name × Call). is_built x.1) same ∙ spells.built));
-}
 
 -- ---- where a tuple is put
 

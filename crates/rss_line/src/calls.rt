@@ -1,6 +1,5 @@
 // The call that a line is.
 ghost use Rattle.std.specs.Prelude.{◌≡◌};
-ghost use Rattle.rss_model.specs.Callers.{is_built};
 ghost use Rattle.rss_model.specs.Forms.{IsStatement, calls};
 ghost use Rattle.rss_line.specs.Reads.{ReadsWords, Behind};
 
@@ -9,36 +8,6 @@ use crate::reader::Reader;
 use crate::{LineFault, Names};
 use rss_base::{Call, Name};
 use std::alloc::Global;
-
-/// Whether the engine makes the call as yet.
-pub(crate) fn is_built(call: &Call) -> bool
-    ensures { result ≡ is_built call.now }
-{
-    matches!(
-        call,
-        Call::Begin(_)
-            | Call::Save(_)
-            | Call::Restore(..)
-            | Call::End(_)
-            | Call::Abort(_)
-            | Call::Insert(..)
-            | Call::Fetch(..)
-            | Call::Update(..)
-            | Call::Delete(..)
-            | Call::OpenRelation(..)
-            | Call::OpenImage(..)
-            | Call::Next(..)
-            | Call::CloseScan(..)
-            | Call::Lock(..)
-            | Call::Checkpoint
-            | Call::MakeSegment(_)
-            | Call::MakeRelation(..)
-            | Call::MakeImage(..)
-            | Call::DropSegment(_)
-            | Call::DropRelation(_)
-            | Call::DropImage(_)
-    )
-}
 
 impl<'a> Reader<'a> {
     /// The call that begins with this word.

@@ -4,7 +4,6 @@ ghost use Rattle.rss_base.specs.declared.call.Call.{Call};
 ghost use Rattle.rss_base.specs.declared.name.Name.{Name};
 ghost use Rattle.rss_model.specs.Forms.{Spells, IsBlank, IsWords};
 
-use crate::calls::is_built;
 use crate::reader::Reader;
 use crate::{LineFault, Names};
 use rss_base::{Call, Name};
@@ -39,8 +38,5 @@ pub fn read_line(alloc: Global, line: &[u8], names: &Names) -> Result<Line, Line
         return Ok(Line::Blank);
     }
     let (bind, call) = reader.statement(alloc, names)?;
-    if !is_built(&call) {
-        return Err(LineFault::Words);
-    }
     Ok(Line::Call { bind, call })
 }

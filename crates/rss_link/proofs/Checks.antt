@@ -23,7 +23,7 @@ use Rattle.rss_link.proofs.TupleSteps.{TuplesStep, then, same_bodies}
 use Rattle.rss_link.proofs.Lists.{false_true, last_behind, some_one}
 use Rattle.rss_link.proofs.Meaning.{ends_one}
 use Rattle.rss_link.proofs.Ordered.{HasWidth, room_behind, less_room, IsSeen, seen_here, seen_still, seen_more, seen_all, begins_live, live_named}
-use Rattle.rss_link.proofs.Chained.{IsFront, front_none, front_more, front_refused, front_full, front_done, front_open}
+use Rattle.rss_link.proofs.Chained.{IsFront, front_none, front_more, front_refused, front_done, front_open}
 use Rattle.rss_link.proofs.Coming.{as_parent_of}
 use Rattle.rss_link.proofs.Prefixed.{none_parent, only_none}
 use Rattle.rss_link.proofs.Counted.{counted_none, counted_more, counted_all}
@@ -116,9 +116,6 @@ module _ {link : Chains} {relations : Relations} {parent : Option Tid} {ends : E
             omega (arith, long, was.3, length-append was.0 (tid ∷ [])),
           );
     }
-
-    pub walking_full : count ≡ most → IsTold start.pages.disk → NoneIsWalked link relations start.bodies parent ends most
-    walking_full full told = let was = so.are told in front_full was.1 tid is most (was.3 ∙ full)
 
     pub walking_refused : (IsTold now.pages.disk → NotFollowed link relations now.bodies parent previous tid) → IsTold start.pages.disk → NoneIsWalked link relations start.bodies parent ends most
     walking_refused never told =

@@ -120,20 +120,9 @@ module _ {link : Chains} {relations : Relations} {bodies : Bodies} {t : Tid} whe
     outside = λ is child. says;
   }
 
-  pub counted_other : children_of link relations bodies t ≡ false → IsCounted link relations bodies t false
-  counted_other other = record {
-    says = λ is. absurd (false_true _ other is);
-    distinct = λ is. absurd (false_true _ other is);
-    within = λ never. absurd (false_true false refl never);
-    outside = λ is child. absurd (false_true _ other child);
-  }
-
   -- it stands in the chain of this parent, behind this one, or it doesn't say so
   pub followed : children_of link relations bodies t ≡ true → {other before parent previous next : Option Tid} → Says link bodies t (Within other before next) → other ≡ parent → before ≡ previous → IsFollowed link relations bodies parent previous t next
   followed child {next = next} says parents previouses = record { is_child = child; says = subst (λ (s : Standing). Says link bodies t s) (λ i. Within (parents i) (previouses i) next) says }
 
   pub other_place : {other before parent previous next : Option Tid} → Says link bodies t (Within other before next) → ((other ≡ parent) × (before ≡ previous) → ⊥) → NotFollowed link relations bodies parent previous t
   other_place says differ = λ found it. differ (place_one (says_one link bodies t _ _ says it.says))
-
-  pub not_placed : (standing : Standing) → standing ≡ Outside → Says link bodies t standing → {parent previous : Option Tid} → NotFollowed link relations bodies parent previous t
-  not_placed standing is says = λ found it. never_both (record { parent = _; previous = _; next = found; says = it.says }) standing is says

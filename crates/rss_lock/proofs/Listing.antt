@@ -60,9 +60,6 @@ module _ (holders : List (Option Holder)) (t : ℕ) (relations : List Name) wher
   moved : (entries done : List Entry) (rest : List Entry) (entry : Entry) (next : List Entry) → rest ≡ entry ∷ next → entries ≡ done ++ rest → entries ≡ (done ++ entry ∷ []) ++ next
   moved entries done rest entry next is split = split ∙ ap (λ (l : List Entry). done ++ l) is ∙ sym (append_assoc done (entry ∷ []) next)
 
-  pub gathers_none : (entries : List Entry) → Gathers entries entries []
-  gathers_none entries = record { done = []; split = refl; each = λ tid. (λ there. absurd (omega (arith, there.1)), λ among. absurd (omega (arith, among.there.1))) }
-
   pub gathers_skip : (entries rest : List Entry) (tids : List Tid) (entry : Entry) (next : List Entry) → rest ≡ entry ∷ next → ((tid : Tid) → BarsTid holders t relations entry.0 entry.1 tid → ⊥) → Gathers entries rest tids → Gathers entries next tids
   gathers_skip entries rest tids entry next is none old = record {
     done = old.done ++ entry ∷ [];

@@ -132,9 +132,6 @@ tree_more tree node above number is up within spelled =
       ];
     }
 
-pub tree_done : (tree : List ℕ) (node : ℕ) → IsTreeBut tree node → node < 16 → IsTree tree
-tree_done tree node is top = record { least = is.least; most = is.most; maxima = λ other small. is.maxima other small (omega arith) }
-
 -- ---- what a change leaves of the numbers
 
 pub numbers_set : (tree numbers : List ℕ) (place number : ℕ) → drop 4368 tree ≡ numbers → drop 4368 (set tree (4368 + place) number) ≡ set numbers place number

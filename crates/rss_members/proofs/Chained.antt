@@ -29,7 +29,7 @@ each_stands P (y ∷ tids) all x is = by_test (is_tid x y)
     (λ e. subst P (sym (tid_same x y e)) (all 0 y (omega arith)))
     (λ e. each_stands P tids (λ k d lt. all (suc k) d (omega (arith, lt))) x (rw e at is))
 
-some_neighbours : (x : Tid) (before : Option Tid) (tids : List Tid) → stands_in x tids ≡ true → (n : Neighbours) × (neighbours_from before tids x ≡ Some n)
+pub some_neighbours : (x : Tid) (before : Option Tid) (tids : List Tid) → stands_in x tids ≡ true → (n : Neighbours) × (neighbours_from before tids x ≡ Some n)
 some_neighbours x before [] is = absurd (cc (is))
 some_neighbours x before (y ∷ tids) is = by_tid y x
     (λ e. let here : is_tid y x ≡ true = subst (λ (t : Tid). is_tid y t ≡ true) e (tid_itself y) in (record { previous = before; next = first_of tids }, rw here refl))
@@ -68,7 +68,7 @@ module _ {tables : Tables} (links : LinksFit tables) (name : Name) (link : LinkD
         under = subst (λ (d : LinkDef). HasParent tables.contents d.parent parent) same of.under;
       }
 
-  once : (parent : Option Tid) → StandOnce (chain tables.contents name parent)
+  pub once : (parent : Option Tid) → StandOnce (chain tables.contents name parent)
   once parent = by (content tables.contents (ChainItem name parent)) refl
     where
       by : (o : Option Content) → content tables.contents (ChainItem name parent) ≡ o → StandOnce (chain tables.contents name parent)
@@ -86,7 +86,7 @@ module _ {tables : Tables} (links : LinksFit tables) (name : Name) (link : LinkD
   }
 
   -- where the link has parents, so has each chain with a tuple
-  has_parent : is_some link.parent ≡ true → (parent : Option Tid) (x : Tid) → stands_in x (chain tables.contents name parent) ≡ true → (above : Tid) × (parent ≡ Some above)
+  pub has_parent : is_some link.parent ≡ true → (parent : Option Tid) (x : Tid) → stands_in x (chain tables.contents name parent) ≡ true → (above : Tid) × (parent ≡ Some above)
   has_parent kind parent x is = by link.parent parent kind (full parent x is).under
     where
       by : (above : Option Name) (parent : Option Tid) → is_some above ≡ true → HasParent tables.contents above parent → (tid : Tid) × (parent ≡ Some tid)

@@ -6,5 +6,16 @@ pub mod Linked
 pub mod Rewritten
 pub mod Again
 pub mod Sums
+pub mod Standing
 pub mod Asked
+pub mod Later
+pub mod Defined
+pub mod Alone
+pub mod Found
 pub mod Joined
+pub mod Gathered
+pub mod GatheredBytes
+pub mod GatheredChains
+pub mod LinkFound
+pub mod Ends
+pub mod Finished

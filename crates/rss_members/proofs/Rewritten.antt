@@ -54,7 +54,7 @@ agrees_as : (at at_too size size_too : ℕ) (b n x y : List ℕ) → b ≡ x →
 agrees_as at at_too size size_too b n x y p q r s agree =
     subst (λ (k : ℕ). AgreeOff k size_too x y) r (subst (λ (k : ℕ). AgreeOff at k x y) s (subst (λ (l : List ℕ). AgreeOff at size l y) p (subst (λ (l : List ℕ). AgreeOff at size b l) q agree)))
 
-flat_alike : {A : Type 0} (f g : A → List ℕ) (items : List A) (d : A) → ((k : ℕ) → k < length items → f (get_or items k d) ≡ g (get_or items k d)) → flat_map f items ≡ flat_map g items
+pub flat_alike : {A : Type 0} (f g : A → List ℕ) (items : List A) (d : A) → ((k : ℕ) → k < length items → f (get_or items k d) ≡ g (get_or items k d)) → flat_map f items ≡ flat_map g items
 flat_alike f g [] d alike = refl
 flat_alike f g (item ∷ items) d alike =
     flat_map-cons f item items ∙ (λ i. alike 0 (omega arith) i ++ flat_alike f g items d (λ k lt. alike (suc k) (omega (arith, lt))) i) ∙ sym (flat_map-cons g item items)

@@ -1,6 +1,7 @@
 -- Links as a catalog lists them: where their blocks stand in bodies, and the tables that these spell.
-use Rattle.std.specs.Prelude.{◌≡◌, ℕ, ◌+◌, ◌-◌, Bool, true, false, not, List, [], take, flat_map, Option, Some, None, is_some}
-use Rattle.rss_base.specs.Listings.{Listing, ListingFits, IsSpelled, relation_at}
+use Rattle.std.specs.Prelude.{◌≡◌, ℕ, ◌+◌, ◌-◌, ◌*◌, Bool, true, false, not, List, [], take, flat_map, Option, Some, None, is_some}
+use Rattle.rss_base.specs.Sizes.{roles_most}
+use Rattle.rss_base.specs.Listings.{Listing, ListingFits, IsSpelled, relation_at, link_at}
 use Rattle.rss_base.specs.Prefixes.{Ends, Part, Outside, Member, Child, Parent, part_in, ends_of, member_block, child_block, parent_block, prefix_size}
 use Rattle.rss_base.specs.declared.name.Name.{Name}
 use Rattle.rss_base.specs.declared.tid.Tid.{Tid}
@@ -10,7 +11,7 @@ use Rattle.rss_base.specs.declared.link.LinkEntry.{LinkEntry}
 use Rattle.rss_tuple.specs.Directory.{Bodies}
 use Rattle.rss_model.specs.Items.{Content}
 use Rattle.rss_model.specs.Tables.{LinkDef, Contents, Tables, content, put}
-use Rattle.rss_model.specs.Chains.{chain, chain_content, is_there, LinksFit}
+use Rattle.rss_model.specs.Chains.{chain, chain_content, stands_in, is_there, LinksFit}
 use Rattle.rss_model.specs.Fits.{IsTupleOf}
 use Rattle.rss_model.specs.Store.{Defines, SpellsContents, link_definition}
 use Rattle.rss_link.specs.declared.link.Chains.{Chains}
@@ -88,7 +89,14 @@ with_chain tables link parent list = record tables {
 
 -- ---- tuples outside of all chains
 
--- the block of a tuple that stands in no chain and has none
+-- the tuple, of the relation of this number, stands in no chain of a link and has none
+pub record IsAlone (listing : Listing) (contents : Contents) (number : ℕ) (tid : Tid) : Type 0 where
+  pub child : (k : ℕ) (link : LinkEntry) → link_at listing k ≡ Some link → link.child ≡ number
+      → (parent : Option Tid) → stands_in tid (chain contents link.name parent) ≡ false
+  pub parent : (k : ℕ) (link : LinkEntry) → link_at listing k ≡ Some link → link.parent ≡ Some number
+      → chain contents link.name (Some tid) ≡ []
+
+-- the block of such a tuple
 abbrev pub blank_block : Part → List ℕ
 blank_block Outside = []
 blank_block Member = member_block None
@@ -102,3 +110,7 @@ blank_listed relation (Some link) = blank_block (part_in link relation)
 -- the prefix of such a tuple, by the number of its relation
 abbrev pub blank_prefix : Listing → ℕ → List ℕ
 blank_prefix listing relation = flat_map (blank_listed relation) listing.links
+
+-- no prefix has more bytes, by the parts that a relation may have in links
+abbrev pub prefix_most : ℕ
+prefix_most = roles_most * 18

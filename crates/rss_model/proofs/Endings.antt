@@ -10,7 +10,7 @@ use Rattle.rss_base.specs.declared.call.Call.TheVariants.{Insert}
 use Rattle.rss_base.specs.declared.answer.Reply.{Reply}
 use Rattle.rss_base.specs.declared.answer.Reply.TheVariants.{Ok as Done}
 use Rattle.rss_base.specs.declared.answer.CallError.{CallError}
-use Rattle.rss_base.specs.declared.answer.CallError.TheVariants.{Refused, Down}
+use Rattle.rss_base.specs.declared.answer.CallError.TheVariants.{Down}
 use Rattle.rss_base.specs.declared.fault.PageFault.{PageFault}
 use Rattle.rss_base.specs.declared.place.Place.{Place}
 use Rattle.rss_base.specs.declared.fault.PageFault.TheVariants.{Device as PageDevice, Damaged as PageDamaged, NoMemory as PageNoMemory}
@@ -103,10 +103,6 @@ defined_by {old = old} {call = call} names up made = record {
 pub comes_to : {old new : EngineView} {call : Call} {result : Result Reply CallError} → old.is_up → GoesOn old new call → IsOutcome old new call result → IsCallOf old new call result
 comes_to is_up goes outcome = record { goes = goes; outcome = λ was. outcome; down = λ not. absurd (not is_up) }
 
--- by a refusal, where the call is told so at once: nothing was done
-pub refused_at_once : {view : EngineView} {call : Call} {why : Refusal} → view.is_up → IsShort (Err why) → ((state : State) → view.shows state → (refusal state call ≡ Some why) × view.shows (left_by state call why)) → IsCallOf view view call (Err (Refused why))
-refused_at_once {view = view} {call = call} {why = why} up short refused = comes_to up (idles view call) (refused_by up short (λ told state shown. ((refused state shown).0, (refused state shown).1, started _ _)))
-
 -- What is known of a fault of pages, by which a call ended: it is none of memory; no state shows damage; and a failed device has its count risen, within a step that was on its way.
 pub record FaultsIn (old new : EngineView) (call : Call) (fault : PageFault) : Type 0 where
   pub memory : fault ≡ PageNoMemory → ⊥
@@ -128,7 +124,3 @@ failed {old = old} {new = new} {call = call} {fault = fault} result is is_up goe
 -- an engine that is up isn't found down
 pub never_down : {old new : EngineView} {call : Call} {result : Result Reply CallError} → IsCallOf old new call result → old.is_up → IsErrOf result Down → ⊥
 never_down {old = old} {new = new} {call = call} made up is = subst (IsOutcome old new call) is (made.outcome up)
-
--- since it was down
-pub was_down : {view : EngineView} (call : Call) → (view.is_up → ⊥) → IsCallOf view view call (Err Down)
-was_down {view = view} call not = record { goes = idles view call; outcome = λ up. absurd (not up); down = λ still. refl }

@@ -1,6 +1,6 @@
 -- The first log: it has one record, and the tables of its checkpoint are recovered.
-use Rattle.std.proofs.Common.{◌≡◌, ℕ, ◌+◌, true, List, [], ◌∷◌, ◌++◌, Option, refl, sym, ◌∙◌, ap, arith}
-use Rattle.std.proofs.lemmas.List.Elements.{recursion_from_All, All-from_recursion}
+use Rattle.std.proofs.Common.{◌≡◌, ℕ, ◌+◌, true, List, [], ◌∷◌, Option, refl, sym, ◌∙◌, ap, arith}
+use Rattle.std.proofs.lemmas.List.Elements.{All-from_recursion}
 use Rattle.std.specs.List.{AllByRecursion}
 use Rattle.rss_base.specs.DiskRule.{Pages}
 use Rattle.rss_base.specs.Layout.{log_at}
@@ -12,15 +12,14 @@ use Rattle.rss_base.specs.declared.key.PageKey.{PageKey}
 use Rattle.rss_base.specs.declared.log_record.LogRecord.{LogRecord}
 use Rattle.rss_base.specs.declared.log_record.LogRecord.TheVariants as records
 use Rattle.rss_base.specs.declared.root.Root.{Root}
-use Rattle.rss_record.proofs.Parsing.{some_bytes, placed_length, parses_once}
+use Rattle.rss_record.proofs.Parsing.{some_bytes, placed_length}
 use Rattle.rss_model.specs.Tables.{Contents, Tables}
 use Rattle.rss_model.specs.Fits.{Fits}
 use Rattle.rss_model.specs.Records.{LogEntry, Checkpoint}
-use Rattle.rss_model.specs.Recovers.{Recovers, lists_at, base_at}
+use Rattle.rss_model.specs.Recovers.{Recovers}
 use Rattle.rss_model.specs.Records.{recovered}
 use Rattle.rss_model.specs.Meanings.{Logged, as_bytes, as_entries, Says, says_change, says_restore, says_end, says_abort, says_checkpoint, MeansIt, IsLogged, is_listed}
-use Rattle.rss_model.specs.Store.{HasFirstLog, Stored, first_record, first_stored, HasLog}
-use Rattle.rss_model.proofs.LogLists.{all_back}
+use Rattle.rss_model.specs.Store.{HasFirstLog, first_record, first_stored, HasLog}
 use Rattle.rss_model.proofs.LogPlaced.{told_at}
 
 -- ---- a root with the first log
@@ -92,33 +91,3 @@ one_record listing (l ∷ []) say same =
     let at : l.at ≡ 0 = ap (λ (p : bytes.Placed). p.at) first in
     let entry : l.is ≡ Checkpoint [] = says_first say.0 told in
     λ i. record { at = at i; told = told i; is = entry i } ∷ []
-
-module _ {pages : Pages} {is : Stored} (log : HasLog pages is) (first : HasFirstLog is.root) where
-  pub first_older : is.older ≡ []
-  first_older = none_before is.root.head is.root.checkpoint is.older log.checkpoint (first.head ∙ sym first.checkpoint)
-
-  pub first_newer : is.newer ≡ first_record ∷ []
-  first_newer =
-      let all : as_bytes (is.older ++ is.newer) ≡ as_bytes (first_record ∷ []) = parses_once log.parses (first_parses pages is.root first) in
-      one_record is.listing is.newer
-      (all_back (λ l. Says is.listing l.told l.is) is.older is.newer (recursion_from_All (λ (l : Logged). Says is.listing l.told l.is) (is.older ++ is.newer) log.logged.say))
-      (ap (λ (older : List Logged). as_bytes (older ++ is.newer)) (sym first_older) ∙ all)
-
-  -- its tables are those of the checkpoint
-  pub first_tables : is.tables ≡ is.saved
-  first_tables =
-      let contents : is.tables.contents ≡ is.saved.contents = log.recovers.is ∙ (λ i. recovered (base_at is.saved.contents (as_entries (first_older i))) (lists_at (as_entries (first_older i))) (as_entries (first_newer i))) in
-      λ i. record { definitions = log.definitions i; contents = contents i }
-
-  -- and it is the store that has the first log so
-  pub first_form : is ≡ first_stored is.number is.root is.owners is.listing is.tables
-  first_form = λ i. record {
-    number = is.number;
-    root = is.root;
-    owners = is.owners;
-    listing = is.listing;
-    saved = sym first_tables i;
-    older = first_older i;
-    newer = first_newer i;
-    tables = is.tables;
-  }

@@ -126,7 +126,6 @@ module _ {old new : Held} {listing : Listing} {tables : Tables} (spells : Spells
     counts = spells.counts;
     contents = contents_kept;
     images = shown;
-    no_links = spells.no_links;
   }
     where
       stays : (key : PageKey) → is_some (new key) ≡ true → (key.space ≡ System) ⊎ ((key.space ≡ ImageSpace) ⊎ IsHeapKey key) → IsStorePage listed_now key

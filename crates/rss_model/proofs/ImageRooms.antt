@@ -43,7 +43,7 @@ bound_rises listing few many le = sum_by-le-sum_by (bound_at listing few) (bound
         by (Some relation) is = more_bound (key_width (kinds (chosen (field_numbers image) relation.fields))) (few image.relation) (many image.relation) (le image.relation relation is)
 
 -- a sum over the names of what is listed is one over what has them
-sum_named : {A : Type 0} (name : A → Name) (h : Name → ℕ) (g : Option A → ℕ) (items : List (Option A)) → g None ≡ 0 → ((k : ℕ) (item : A) → get_or items k None ≡ Some item → h (name item) ≡ g (Some item)) → sum_by (of_name h) (list_map (option_map name) items) ≡ sum_by g items
+pub sum_named : {A : Type 0} (name : A → Name) (h : Name → ℕ) (g : Option A → ℕ) (items : List (Option A)) → g None ≡ 0 → ((k : ℕ) (item : A) → get_or items k None ≡ Some item → h (name item) ≡ g (Some item)) → sum_by (of_name h) (list_map (option_map name) items) ≡ sum_by g items
 sum_named name h g [] none each = refl
 sum_named name h g (None ∷ items) none each =
     omega (arith, none, sum_named name h g items none (λ k. each (suc k)), sum_by-cons (of_name h) None (list_map (option_map name) items), sum_by-cons g None items)

@@ -14,7 +14,7 @@ use Rattle.rss_base.specs.TupleTypes.{fits, misfit, misfit_from, width, most_wid
 use Rattle.std.proofs.lemmas.Bool.{cases_Bool, cond-true, cond-false, leb-true, and_parts}
 use Rattle.std.proofs.lemmas.List.Sums.{sum_by-cons}
 use Rattle.rss_base.specs.declared.answer.Reply.TheVariants.{Tid as Identifier, Tuple as TupleReply, Row}
-use Rattle.rss_base.specs.declared.refusal.Refusal.TheVariants.{BadTuple, NoTuple, Full}
+use Rattle.rss_base.specs.declared.refusal.Refusal.TheVariants.{BadTuple, Full}
 use Rattle.rss_base.specs.Names.{IsName}
 use Rattle.rss_model.specs.Spellings.{quote, doubled, value_text, name_text, tid_text}
 use Rattle.rss_model.specs.ReplyText.{values_text, answer_line}
@@ -47,11 +47,6 @@ name_short : (name : Name) → IsName name → length (name_text name) ≤ 16
 name_short name is =
     let bytes : length name.bytes ≤ 16 = omega (arith, ap length is.bytes, is.few, length-append is.rest (replicate (15 - length is.rest) 0), length-replicate {A = ℕ} (15 - length is.rest) 0) in
     omega (arith, bytes, length-take (prefix_len (λ (b : ℕ). not (b == 0)) name.bytes) name.bytes)
-
-pub no_tuple_line : (relation : Name) (tid : Tid) → IsName relation → tid.page < 2 ^ 32 → tid.slot < 2 ^ 32 → length (answer_line (Err (NoTuple relation tid))) ≤ 8192
-no_tuple_line relation tid is page slot =
-    let name = name_short relation is in
-    omega (arith, name, tid_short tid page slot, length-append (name_text relation ++ codes " " ++ tid_text tid) (codes "\n"), length-append (name_text relation ++ codes " ") (tid_text tid), length-append (name_text relation) (codes " "))
 
 -- ---- the line of a tuple
 

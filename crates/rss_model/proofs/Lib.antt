@@ -62,6 +62,7 @@ pub mod ImageFields
 pub mod ImagePages
 pub mod MappedKeys
 pub mod ImageRooms
+pub mod Prefixes
 pub mod ScanKeeping
 pub mod Redefining
 pub mod StepKeeping

@@ -1,15 +1,14 @@
 -- Pages that spell tables, where a link comes or goes whose relations have no tuples: they spell what the call makes of the tables, by the listing with that link or without it.
 use Rattle.std.proofs.Common.{◌≡◌, ◌≢◌, ◌⊎◌, inl, inr, ℕ, zero, suc, ◌-◌, ◌≤◌, true, false, List, [], ◌∷◌, ◌++◌, length, get_or, refl, sym, ◌∙◌, ap, subst, arith}
-use Rattle.std.specs.Prelude.{Option, Some, None, is_some, option_map, option_and_then, slice_set, flat_map, ◌==◌, All}
+use Rattle.std.specs.Prelude.{Option, Some, None, is_some, slice_set, flat_map, ◌==◌, All}
 use Rattle.std.specs.FinMap as map
 use Rattle.std.specs.List.{list_any}
-use Rattle.std.proofs.lemmas.Bool.{cases_eq, eq-eqb, eqb-true, leb-false, true≢false}
+use Rattle.std.proofs.lemmas.Bool.{cases_eq, eq-eqb, leb-false, true≢false}
 use Rattle.std.proofs.lemmas.Option.{none-some, same_Some}
 use Rattle.rss_base.specs.Paged.{Held}
 use Rattle.rss_base.specs.Sizes.{links_most}
-use Rattle.rss_base.specs.Listings.{Listing, ListingFits, HasNoLinks, IsNumberOf, relation_at, link_at, has_role, is_parent_in, with_link}
+use Rattle.rss_base.specs.Listings.{Listing, ListingFits, IsNumberOf, relation_at, link_at, has_role, is_parent_in, with_link}
 use Rattle.rss_base.specs.Prefixes.{first_of, last_of}
-use Rattle.rss_base.specs.declared.call.Call.TheVariants.{MakeLink}
 use Rattle.rss_base.specs.declared.name.Name.{Name}
 use Rattle.rss_base.specs.declared.tid.Tid.{Tid}
 use Rattle.rss_base.specs.declared.item.Item.TheVariants.{Tuple, Chain}
@@ -18,11 +17,11 @@ use Rattle.rss_base.specs.declared.link.LinkEntry.{LinkEntry}
 use Rattle.rss_base.specs.declared.refusal.Kind.TheVariants.{Link as LinkKind}
 use Rattle.rss_tuple.specs.Directory.{bodies_of}
 use Rattle.rss_model.specs.Items.{Content, name_cmp}
-use Rattle.rss_model.specs.Tables.{LinkDef, Definitions, Contents, Tables, content, tuple_count}
+use Rattle.rss_model.specs.Tables.{LinkDef, Contents, Tables, content, tuple_count}
 use Rattle.rss_model.specs.Chains.{chain, tuples_in, is_there, LinksFit}
 use Rattle.rss_model.specs.Defining.{defined, with_definitions, relations_of_link, holds_tuples}
 use Rattle.rss_model.specs.Machine.{State}
-use Rattle.rss_model.specs.Store.{AreEnds, DefinesPaths, IsChainItem, IsTupleItem, SpellsContents, SpellsTables, link_definition, listed_block, prefix_of, relation_name}
+use Rattle.rss_model.specs.Store.{AreEnds, DefinesPaths, IsChainItem, IsTupleItem, SpellsContents, SpellsTables, link_definition, listed_block, prefix_of}
 use Rattle.rss_model.proofs.Counts.{none_counted}
 use Rattle.rss_model.proofs.LogLists.{by_test, some_of}
 use Rattle.rss_model.proofs.Named.{made, made_here, made_other, gone, gone_other}
@@ -30,12 +29,6 @@ use Rattle.rss_model.proofs.Refitting.{chain_parts}
 use Rattle.rss_model.proofs.Relisted.{IsTupleThere, KeepsChains, KeepsImages, KeepsPrefixes, contents_renumbered, images_kept, number_at, number_set, number_kept, number_within_list}
 use Rattle.rss_model.proofs.Spelled.{listed_link, name_numbered, named_link}
 use Rattle.rss_model.proofs.Standing.{or_none}
-
--- the call that makes a link defines it so
-pub link_made_defined : (listing : Listing) (definitions : Definitions) (link : LinkEntry) (child : RelationEntry)
-    → defined (MakeLink link.name (option_and_then (relation_name listing) link.parent) child.name) definitions
-    ≡ Some (record definitions { links = map.insert definitions.links link.name (link_definition listing link child) })
-link_made_defined listing definitions link child = refl
 
 -- ---- a prefix, where a link comes or goes
 
@@ -53,20 +46,6 @@ module _ (state : State) (listing : Listing) (link : LinkEntry) (child : Relatio
   child_held : (parent : Option Name) → list_any (holds_tuples state) (relations_of_link parent child.name) ≡ false → holds_tuples state child.name ≡ false
   child_held None none = (or_none (holds_tuples state child.name) false none).0
   child_held (Some parent) none = (or_none (holds_tuples state child.name) false (or_none (holds_tuples state parent) _ none).1).0
-
-  pub none_hold : list_any (holds_tuples state) (relations_of_link (option_and_then (relation_name listing) link.parent) child.name) ≡ false → HasNoTuples listing state.base.contents link
-  none_hold none number relation role is = by_test (link.child == number)
-      (λ same.
-      let one : child ≡ relation = same_Some _ _ (sym at ∙ ap (relation_at listing) (eqb-true link.child number same) ∙ is) in
-      none_held relation.name (subst (λ (r : RelationEntry). holds_tuples state r.name ≡ false) one (child_held (option_and_then (relation_name listing) link.parent) none)))
-      (λ other. upper link.parent (rw other at role) none)
-    where
-      upper : (parent : Option ℕ) → is_parent_in parent number ≡ true → list_any (holds_tuples state) (relations_of_link (option_and_then (relation_name listing) parent) child.name) ≡ false → tuple_count state.base.contents relation.name ≡ 0
-      upper None role none = absurd (cc)
-      upper (Some parent) role none =
-          let named : relation_name listing parent ≡ Some relation.name = ap (relation_name listing) (eqb-true parent number role) ∙ ap (option_map (λ (r : RelationEntry). r.name)) is in
-          let names = subst (λ (o : Option Name). list_any (holds_tuples state) (relations_of_link o child.name) ≡ false) named none in
-          none_held relation.name (or_none (holds_tuples state relation.name) _ names).0
 
 -- a relation that has tuples is in no such link
 no_role : (listing : Listing) (contents : Contents) (link : LinkEntry) → HasNoTuples listing contents link → (number : ℕ) (relation : RelationEntry) (tid : Tid) → relation_at listing number ≡ Some relation → IsTupleThere contents relation tid → has_role number (Some link) ≡ false
@@ -101,7 +80,7 @@ chain_listed link parent (inl tuple) = absurd (none tuple.is)
     none is = cc (is)
 chain_listed link parent (inr is) = is
 
-module _ {held : Held} {listing : Listing} {tables : Tables} (spells : SpellsTables held listing tables) (number : ℕ) (link : Option LinkEntry) (fits : ListingFits (with_link listing number link)) (none : HasNoLinks (with_link listing number link)) where
+module _ {held : Held} {listing : Listing} {tables : Tables} (spells : SpellsTables held listing tables) (number : ℕ) (link : Option LinkEntry) (fits : ListingFits (with_link listing number link)) where
   abbrev listed_now : Listing
   listed_now = with_link listing number link
 
@@ -128,7 +107,6 @@ module _ {held : Held} {listing : Listing} {tables : Tables} (spells : SpellsTab
     counts = spells.counts;
     contents = contents;
     images = images_kept images_into images_back (λ k image relation l. refl) spells.images;
-    no_links = none;
   }
 
 -- ---- a link is made
@@ -213,9 +191,9 @@ module _ {held : Held} {listing : Listing} {tables : Tables} (spells : SpellsTab
   pub link_made_contents : SpellsContents listed_more (bodies_of held) tables.contents
   link_made_contents = contents_renumbered listing listed_more (bodies_of held) tables.contents (λ k relation tid is there. is) (λ k relation tid is there. is) prefixes_kept chains_kept ends_made spells.contents
 
-  -- The pages spell the tables with the link. As yet pages that spell tables list none, so this says nothing until they may: the contents are spelled without that.
-  pub link_made_spells : HasNoLinks listed_more → SpellsTables held listed_more (with_definitions (record tables.definitions { links = map.insert tables.definitions.links link.name (link_definition listing link child) }) tables)
-  link_made_spells none = spelled_beside spells number (Some link) fits none links_more paths_made link_made_contents
+  -- The pages spell the tables with the link.
+  pub link_made_spells : SpellsTables held listed_more (with_definitions (record tables.definitions { links = map.insert tables.definitions.links link.name (link_definition listing link child) }) tables)
+  link_made_spells = spelled_beside spells number (Some link) fits links_more paths_made link_made_contents
 
 -- ---- a link is dropped
 
@@ -291,5 +269,5 @@ module _ {held : Held} {listing : Listing} {tables : Tables} (spells : SpellsTab
       (λ k other is. spells.contents.ends k other (had_it k other is).1) spells.contents
 
   -- The pages spell the tables without the link.
-  pub link_gone_spells : HasNoLinks listed_less → SpellsTables held listed_less (with_definitions (record tables.definitions { links = map.remove tables.definitions.links link.name }) tables)
-  link_gone_spells none = spelled_beside spells number None fits none links_less paths_gone link_gone_contents
+  pub link_gone_spells : SpellsTables held listed_less (with_definitions (record tables.definitions { links = map.remove tables.definitions.links link.name }) tables)
+  link_gone_spells = spelled_beside spells number None fits links_less paths_gone link_gone_contents

@@ -1,5 +1,5 @@
 -- Tables without images and links fit as far as these go.
-use Rattle.std.proofs.Common.{◌≡◌, ℕ, true, Bool, List, [], ◌∷◌, length, refl, sym, ◌∙◌, ap, arith}
+use Rattle.std.proofs.Common.{◌≡◌, true, Bool, List, [], ◌∷◌, length, refl, sym, ◌∙◌, ap, arith}
 use Rattle.std.specs.Prelude.{Option, Some, None, is_some, count_by}
 use Rattle.std.specs.FinMap as finite
 use Rattle.std.specs.FinMap.{FinMap, get-empty, len-empty, len-entries}
@@ -13,7 +13,7 @@ use Rattle.rss_model.specs.Items.{Content, name_cmp}
 use Rattle.rss_model.specs.Tables.{LinkDef, Definitions, Tables, content}
 use Rattle.rss_model.specs.Chains.{has_part, stands_in, tuples_in, LinksFit}
 use Rattle.rss_model.specs.Images.{KeysFit}
-use Rattle.rss_model.specs.Fits.{PathsFit, Fits}
+use Rattle.rss_model.specs.Fits.{PathsFit}
 
 -- nothing is found in an empty map
 pub none_found : {X : Type 0} (m : FinMap name_cmp X) (name : Name) (x : X) → m ≡ finite.empty → finite.get m name ≡ Some x → ⊥
@@ -49,16 +49,6 @@ plain_keys tables none name image one other key there unique first second = absu
 -- no chain holds anything
 abbrev pub NoChains : Tables → Type 0
 NoChains tables = (link : Name) (parent : Option Tid) → content tables.contents (Chain link parent) ≡ None
-
-pub no_chains : {slots : ℕ} (tables : Tables) → Fits slots tables → tables.definitions.links ≡ finite.empty → NoChains tables
-no_chains tables fit none link parent = none_there (content tables.contents (Chain link parent)) (λ held is. held_is held is)
-  where
-    none_there : (o : Option Content) → ((held : Content) → o ≡ Some held → ⊥) → o ≡ None
-    none_there None not = refl
-    none_there (Some held) not = absurd (not held refl)
-
-    held_is : (held : Content) → content tables.contents (Chain link parent) ≡ Some held → ⊥
-    held_is held is = let of = fit.links.chains link parent held is in none_found tables.definitions.links link of.definition none of.defined
 
 pub plain_links : (tables : Tables) → NoChains tables → LinksFit tables
 plain_links tables none = record {

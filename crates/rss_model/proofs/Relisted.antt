@@ -269,7 +269,6 @@ module _ {held : Held} {listing : Listing} {tables : Tables} (spells : SpellsTab
     counts = spells.counts;
     contents = contents_relisted listing listed_now (bodies_of held) tables.contents (λ k relation tid at there. at) (λ k relation tid at there. at) refl spells.contents;
     images = images_kept (segment_into listing number (Some name)) (segment_back listing number (Some name)) (λ k image relation l. refl) spells.images;
-    no_links = spells.no_links;
   }
 
 -- ---- a segment is dropped
@@ -377,7 +376,6 @@ module _ {held : Held} {listing : Listing} {tables : Tables} (spells : SpellsTab
     counts = spells.counts;
     contents = contents_relisted listing listed_less (bodies_of held) tables.contents (λ k relation tid at there. at) (λ k relation tid at there. at) refl spells.contents;
     images = images_kept (segment_into listing number None) (segment_back listing number None) (λ k image relation l. refl) spells.images;
-    no_links = spells.no_links;
   }
 
 -- ---- a relation is made
@@ -465,7 +463,6 @@ module _ {held : Held} {listing : Listing} {tables : Tables} (spells : SpellsTab
     ]) refl spells.contents;
     images = images_kept made_into made_back (λ k image relation l. same_list tables (record tables.definitions { relations = map.insert tables.definitions.relations new.name (definition_of segment new) }) (image_definition image relation)
         (made_other tables.definitions.relations new.name (definition_of segment new) relation.name (other_name image.relation relation l.within))) spells.images;
-    no_links = spells.no_links;
   }
     where
       none_from : {A : Type 0} (o : Option A) → (is_some o ≡ true → ⊥) → o ≡ None
@@ -531,5 +528,4 @@ module _ {held : Held} {listing : Listing} {tables : Tables} (spells : SpellsTab
         rest_kept k other ∙ is) (λ k relation tid is there. (had_it k relation is).1) refl spells.contents;
     images = images_kept gone_into gone_back (λ k image relation l. same_list tables (record tables.definitions { relations = map.remove tables.definitions.relations old.name }) (image_definition image relation)
         (gone_other tables.definitions.relations old.name relation.name (other_named image.relation relation (none_of k image l.at) l.within))) spells.images;
-    no_links = spells.no_links;
   }

@@ -58,10 +58,6 @@ one_open state t marks is =
 
 -- ---- definitions that are refused
 
--- of three, none holds
-none_on : {a b c : Bool} → a ≡ false → b ≡ false → c ≡ false → (a || b || c) ≡ false
-none_on off_a off_b off_c = λ i. off_a i || off_b i || off_c i
-
 first_on : {a : Bool} (b c : Bool) → a ≡ true → (a || b || c) ≡ true
 first_on b c on = ap (λ (x : Bool). x || b || c) on
 
@@ -112,12 +108,6 @@ module _ (state : State) (closed : least_open state ≡ None) where
 
       pub make_relation_many : nat_le relations_most (map.len state.base.definitions.relations) ≡ true → refusal state (MakeRelation name segment fields) ≡ Some (Limit RelationLimit)
       make_relation_many many = named ∙ refuses_at _ (refuses_if (Limit RelationLimit) many)
-
-      pub make_relation_fields : nat_le relations_most (map.len state.base.definitions.relations) ≡ false → are_kinds (kinds fields) ≡ false → refusal state (MakeRelation name segment fields) ≡ Some (Limit FieldLimit)
-      make_relation_fields room formed = named ∙ goes_on _ (passes_if (Limit RelationLimit) room) ∙ refuses_at _ (refuses_unless (Limit FieldLimit) formed)
-
-      pub make_relation_wide : nat_le relations_most (map.len state.base.definitions.relations) ≡ false → are_kinds (kinds fields) ≡ true → nat_le (width (kinds fields)) most_width ≡ false → refusal state (MakeRelation name segment fields) ≡ Some (Limit WidthLimit)
-      make_relation_wide room formed narrow = named ∙ goes_on _ (passes_if (Limit RelationLimit) room) ∙ goes_on _ (passes_unless (Limit FieldLimit) formed) ∙ refuses_at _ (refuses_unless (Limit WidthLimit) narrow)
 
       pub make_relation_passes : nat_le relations_most (map.len state.base.definitions.relations) ≡ false → are_kinds (kinds fields) ≡ true → nat_le (width (kinds fields)) most_width ≡ true → refusal state (MakeRelation name segment fields) ≡ None
       make_relation_passes room formed narrow = named ∙ goes_on _ (passes_if (Limit RelationLimit) room) ∙ goes_on _ (passes_unless (Limit FieldLimit) formed) ∙ goes_on _ (passes_unless (Limit WidthLimit) narrow)

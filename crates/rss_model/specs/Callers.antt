@@ -53,28 +53,3 @@ is_definition call = by (class_of call)
     by : Class → Bool
     by Defines = true
     by class = false
-
--- the calls that the engine makes as yet: all but those on links
-abbrev pub is_built : Call → Bool
-is_built (Begin t) = true
-is_built (Save t) = true
-is_built (Restore t save) = true
-is_built (End t) = true
-is_built (Abort t) = true
-is_built (Insert t relation values) = true
-is_built (Fetch t relation tid) = true
-is_built (Update t relation tid values) = true
-is_built (Delete t relation tid) = true
-is_built (OpenRelation t relation) = true
-is_built (OpenImage t image start) = true
-is_built (Next t scan) = true
-is_built (CloseScan t scan) = true
-is_built (Lock t item exclusive) = true
-is_built Checkpoint = true
-is_built (MakeSegment name) = true
-is_built (MakeRelation name segment fields) = true
-is_built (MakeImage name relation is_unique fields) = true
-is_built (DropSegment name) = true
-is_built (DropRelation name) = true
-is_built (DropImage name) = true
-is_built call = false

@@ -9,7 +9,6 @@ use Rattle.rss_base.specs.declared.spot.Spot.TheVariants.{First, Last as LastOne
 use Rattle.rss_base.specs.declared.call.Call.{Call}
 use Rattle.rss_base.specs.declared.call.Call.TheVariants.{Begin, Save, Restore, End, Abort, Insert, Fetch, Update, Delete, Connect, Disconnect, Parent, OpenRelation, OpenImage, OpenLink, Next, CloseScan, Lock, Checkpoint, MakeSegment, MakeRelation, MakeImage, MakeLink, DropSegment, DropRelation, DropImage, DropLink}
 use Rattle.rss_model.specs.Variables.{Variable}
-use Rattle.rss_model.specs.Callers.{is_built}
 use Rattle.rss_model.specs.Script.{AreSpaces, HasWords, line_limit, IsTransaction, IsNameWord, IsVariable, IsTidIn, IsNumberIn, IsMode, AreValues, AreNames, AreFieldWords}
 
 -- ---- forms
@@ -200,15 +199,13 @@ IsStatement names =
 abbrev pub IsShortLine : List ℕ → Type 0
 IsShortLine line = length line ≤ line_limit
 
--- Under these variables, the line is this call, which the engine makes; its reply is for this
--- variable, if there is one.
+-- Under these variables, the line is this call; its reply is for this variable, if there is one.
 pub record Spells (names : List Variable) (line : List ℕ) (variable : Option Name) (call : Call)
     : Type 0 where
   pub words : List (List ℕ)
   pub spaced : HasWords line words
   pub says : IsStatement names words (variable, call)
   pub short : IsShortLine line
-  pub built : is_built call ≡ true
 
 -- the byte with which a comment begins
 abbrev pub comment_mark : ℕ

@@ -24,7 +24,7 @@ use Rattle.rss_base.specs.LogPages.{log_bytes}
 use Rattle.rss_base.specs.PageMap.{IsMap, IsMapFault, page_count}
 use Rattle.rss_base.specs.Paged.{Held, mapped_of}
 use Rattle.rss_base.specs.StoredPages.{mapped_by, held_at}
-use Rattle.rss_base.specs.Listings.{Listing, ListingFits, HasNoLinks, HoldsListing, IsNumberOf, AreDifferent, field_numbers, segment_at, relation_at, image_at, link_at}
+use Rattle.rss_base.specs.Listings.{Listing, ListingFits, HoldsListing, IsNumberOf, AreDifferent, field_numbers, segment_at, relation_at, image_at, link_at}
 use Rattle.rss_base.specs.Nodes.{Node, NodesOf}
 use Rattle.rss_base.specs.Trees.{Pair, IsNodeAt, IsImage}
 use Rattle.rss_base.specs.Prefixes.{ChildPlace, Part, Outside, Member, Child, Parent, part_in, neighbours_in, ends_of, first_of, last_of, member_block, child_block, parent_block}
@@ -166,10 +166,6 @@ abbrev pub body_of : Listing → Contents → ℕ → Tid → List Value → Lis
 body_of listing contents number tid values =
     number ∷ (prefix_of listing contents number tid ++ tuple_bytes values)
 
--- of a tuple that has no blocks, as all are as yet
-abbrev pub plain_body : ℕ → List Value → List ℕ
-plain_body number values = number ∷ tuple_bytes values
-
 -- the body is that of a tuple of a relation of this segment, which has this identifier
 pub record IsTupleBody (listing : Listing) (contents : Contents) (segment : ℕ) (tid : Tid) (body : List ℕ) : Type 0 where
   pub number : ℕ
@@ -274,8 +270,6 @@ pub record SpellsTables (held : Held) (listing : Listing) (tables : Tables) : Ty
   pub counts : AreCounts listing tables.contents
   pub contents : SpellsContents listing (bodies_of held) tables.contents
   pub images : SpellsImages held listing tables
-  -- as yet there are no links
-  pub no_links : HasNoLinks listing
 
 -- ---- a store
 

@@ -1,8 +1,7 @@
 // The engine as the lines of a script see it.
-ghost use Rattle.std.specs.Prelude.{◌≡◌, ◌<◌, true, IsErrOf};
+ghost use Rattle.std.specs.Prelude.{◌≡◌, ◌<◌, IsErrOf};
 ghost use Rattle.rss_base.specs.DiskRule.{IsTold};
 ghost use Rattle.rss_model.specs.Calls.{EngineView, IsCallOf, OpensShown, calls_most};
-ghost use Rattle.rss_model.specs.Callers.{is_built};
 ghost use Rattle.rss_model.specs.Defining.{DefinesNames, LocksGranule};
 
 use rss_base::{Call, CallError, Reply};
@@ -18,12 +17,11 @@ pub trait Engine {
     /// Makes a call. Over a device that tells its contents it is a step of the machine, and each
     /// image at a moment of it opens to the committed tables before or after. The names that it
     /// is to define have the form of names, and what it is to lock is a segment or a relation, as
-    /// those of a script's lines are. It makes those calls that are built as yet, and fewer of them
-    /// than `CALLS_MOST`: so positions of the log and numbers of save points stay numbers.
+    /// those of a script's lines are. It is asked for fewer calls than `CALLS_MOST`: so positions of
+    /// the log and numbers of save points stay numbers.
     fn call(&mut self, call: &Call) -> Result<Reply, CallError>
         requires names { DefinesNames call.now }
         requires granule { LocksGranule call.now }
-        requires built { is_built call.now ≡ true }
         requires few { (view self.old).calls < calls_most }
         ensures done { IsCallOf (view self.old) (view self.new) call.now result }
         ensures untouched { IsErrOf result CallError.Down → self.new ≡ self.old };

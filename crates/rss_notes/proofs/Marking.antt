@@ -1,8 +1,8 @@
 -- Lemmas on columns of marks.
-use Rattle.std.proofs.Common.{◌≡◌, ◌≢◌, inl, inr, ℕ, ◌+◌, ◌-◌, ◌<◌, ◌≤◌, Bool, true, false, cond, List, [], length, get_or, set, replicate, refl, sym, ◌∙◌, ap, subst, arith, length-set, get_or-set_same, get_or-set_other}
+use Rattle.std.proofs.Common.{◌≡◌, ◌≢◌, inl, inr, ℕ, ◌+◌, ◌-◌, ◌<◌, ◌≤◌, Bool, true, false, cond, List, [], length, get_or, set, refl, sym, ◌∙◌, ap, subst, arith, length-set, get_or-set_same, get_or-set_other}
 use Rattle.std.specs.Prelude.{Option, Some, None, nat_lt}
 use Rattle.std.proofs.lemmas.Bool.{cases_eq, cases_lt, cases_Bool, cond-true, cond-false, ltb-true, lt-ltb, ne_eqb, true≢false, or_from}
-use Rattle.std.proofs.lemmas.List.{get_or_past, get_or-replicate, length-replicate}
+use Rattle.std.proofs.lemmas.List.{get_or_past}
 use Rattle.rss_base.specs.Paged.{is_same, page_key}
 use Rattle.rss_base.specs.PageMap.{IsKey, IsSegmentOf, number_limit}
 use Rattle.rss_base.specs.declared.key.Space.{Space}
@@ -176,23 +176,6 @@ pub note_told : (number : ℕ) → number ≤ 65533 → note_of_mark (number + 1
 note_told number few =
     let back : number + 1 - 1 ≡ number = omega arith in
     cond-false _ _ (Some (number + 1 - 1)) (or_from _ _ (ne_eqb (number + 1) 0 (λ is. omega arith)) (ne_eqb (number + 1) 65535 (λ is. omega arith))) ∙ ap Some back
-
--- ---- no page is mapped
-pub mark_none : (slots : ℕ) (key : PageKey) → mark_of (replicate 16 (replicate slots 0)) key ≡ 0
-mark_none slots key = at (column_at key.space key.segment) key.number
-  where
-    zero_at : (n : ℕ) → get_or (replicate {A = ℕ} slots 0) n 0 ≡ 0
-    zero_at n = elim (cases_lt n slots) [
-      | inl within ↦ get_or-replicate {A = ℕ} slots n 0 0 within
-      | inr past ↦ get_or_past (replicate slots 0) n 0 (omega (arith, length-replicate {A = ℕ} slots 0))
-    ]
-
-    at : (place : Option ℕ) (n : ℕ) → mark_in (replicate 16 (replicate slots 0)) place n ≡ 0
-    at None n = refl
-    at (Some c) n = elim (cases_lt c 16) [
-      | inl within ↦ ap (λ (l : List ℕ). get_or l n 0) (get_or-replicate 16 c (replicate slots 0) [] within) ∙ zero_at n
-      | inr past ↦ ap (λ (l : List ℕ). get_or l n 0) (get_or_past (replicate 16 (replicate slots 0)) c [] past)
-    ]
 
 -- ---- what the marks tell of each page
 

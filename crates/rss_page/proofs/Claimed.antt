@@ -1,5 +1,5 @@
 -- Bytes that are marked for bodies, one after the other.
-use Rattle.std.proofs.Common.{◌≡◌, ◌⊎◌, inl, inr, ℕ, ◌+◌, ◌*◌, ◌/◌, ◌%◌, ◌^◌, ◌<◌, ◌≤◌, List, length, set, get_or, replicate, refl, sym, ◌∙◌, ap, subst, arith, length-set, get_or-set_same, get_or-set_other}
+use Rattle.std.proofs.Common.{◌≡◌, ◌⊎◌, inl, inr, ℕ, ◌+◌, ◌*◌, ◌/◌, ◌%◌, ◌^◌, ◌<◌, ◌≤◌, List, length, set, get_or, replicate, sym, ◌∙◌, ap, subst, arith, length-set, get_or-set_same, get_or-set_other}
 use Rattle.std.specs.Prelude.{bit_and, bit_or}
 use Rattle.std.specs.Int.{bit_at, w64, trailing_zeros}
 use Rattle.std.proofs.lemmas.Bool.{cases_lt, cases_eq}
@@ -7,7 +7,7 @@ use Rattle.std.proofs.lemmas.Nat.{and_le_r}
 use Rattle.std.proofs.lemmas.Nat.Bits.{bit_at_and, bit_at_or, bit_at-lt, bit_at-zero, bit_at-trailing_zeros}
 use Rattle.std.proofs.lemmas.List.{length-replicate, get_or-replicate, get_or_past}
 use Rattle.rss_page.specs.declared.entry_form.Entry.{Entry}
-use Rattle.rss_page.specs.declared.entry_form.Entry.TheVariants.{Empty as EmptyEntry, Here as HereEntry, Forward as ForwardEntry}
+use Rattle.rss_page.specs.declared.entry_form.Entry.TheVariants.{Here as HereEntry}
 use Rattle.rss_page.specs.Slotted.{entry_at, entry_of, IsInBody, IsAllowed, IsEntry, IsSlotted}
 use Rattle.rss_page.specs.Marks.{mark_at, AreBits, IsWithin, Claims, IsClaimed, IsCovered, AreSlotted}
 use Rattle.rss_page.proofs.Contents.{body_within}
@@ -26,15 +26,6 @@ pub record IsClaiming (old : List ℕ) (place end limit : ℕ) (now : List ℕ) 
   pub marked : (byte : ℕ) → place ≤ byte → byte < end → byte < limit → mark_at now byte ≡ 1
   pub outside : (byte : ℕ) → (byte < place) ⊎ (end ≤ byte) → mark_at now byte ≡ mark_at old byte
   pub past : (byte : ℕ) → limit ≤ byte → mark_at now byte ≡ mark_at old byte
-
-pub claim_none : (old : List ℕ) (place end limit : ℕ) → limit ≤ place → IsClaiming old place end limit old
-claim_none old place end limit low = record {
-  size = refl;
-  fresh = λ byte from to front. absurd (omega arith);
-  marked = λ byte from to front. absurd (omega arith);
-  outside = λ byte off. refl;
-  past = λ byte behind. refl;
-}
 
 -- a word more, none of whose bits for the body was set
 pub claim_more : (old now : List ℕ) (place end word bits : ℕ) → IsClaiming old place end (64 * word) now → word < length now → AreBits word place end bits → bit_and (get_or now word 0) bits ≡ 0
@@ -82,27 +73,6 @@ claim_more old now place end word bits is within are free = record {
     elsewhere : (byte : ℕ) → (byte < 64 * word) ⊎ (64 * word + 64 ≤ byte) → mark_at (set now word both) byte ≡ mark_at now byte
     elsewhere byte off = ap (λ (n : ℕ). bit_at n (byte % 64)) (get_or-set_other now word (byte / 64) both 0 (elim off [ inl before ↦ omega arith | inr behind ↦ omega arith ]))
 
-pub claim_all : (old now : List ℕ) (place count limit : ℕ) → IsClaiming old place (place + count) limit now → place + count ≤ limit → Claims old (HereEntry place count) now
-claim_all old now place count limit is whole = record {
-  size = is.size;
-  fresh = λ byte inside. is.fresh byte inside.low inside.high (omega (arith, inside.high));
-  marked = λ byte inside. is.marked byte inside.low inside.high (omega (arith, inside.high));
-  kept = λ byte was. elim (cases_lt byte place) [
-    | inl before ↦ is.outside byte (inl before) ∙ was
-    | inr from ↦ elim (cases_lt byte (place + count)) [
-      | inl within ↦ is.marked byte from within (omega arith)
-      | inr past ↦ is.outside byte (inr past) ∙ was
-    ]
-  ];
-  only = λ byte has. elim (cases_lt byte place) [
-    | inl before ↦ inl (sym (is.outside byte (inl before)) ∙ has)
-    | inr from ↦ elim (cases_lt byte (place + count)) [
-      | inl within ↦ inr (record { low = from; high = within })
-      | inr past ↦ inl (sym (is.outside byte (inr past)) ∙ has)
-    ]
-  ];
-}
-
 -- a word has a bit for the body that is set already
 pub claim_met : (old now : List ℕ) (place count word bits : ℕ) → IsClaiming old place (place + count) (64 * word) now → AreBits word place (place + count) bits → bits < 2 ^ 64 → 0 < bit_and (get_or now word 0) bits → IsClaimed old (HereEntry place count)
 claim_met old now place count word bits is are small some =
@@ -126,21 +96,6 @@ claim_met old now place count word bits is are small some =
       ];
       marked = sym (is.past byte (omega arith)) ∙ mark_in now word byte (omega arith) (omega (arith, few)) ∙ ap (bit_at (get_or now word 0)) which ∙ taken;
     }
-
--- an entry without a body needs no marks
-pub claim_nothing : (old : List ℕ) (entry : Entry) → ((place count : ℕ) → entry ≡ HereEntry place count → ⊥) → Claims old entry old
-claim_nothing old entry not = record {
-  size = refl;
-  fresh = λ byte inside. absurd (nowhere entry not byte inside);
-  marked = λ byte inside. absurd (nowhere entry not byte inside);
-  kept = λ byte was. was;
-  only = λ byte has. inl has;
-}
-  where
-    nowhere : (one : Entry) → ((place count : ℕ) → one ≡ HereEntry place count → ⊥) → (byte : ℕ) → IsInBody one byte → ⊥
-    nowhere EmptyEntry no_body byte inside = omega (arith, inside.high)
-    nowhere (HereEntry place count) no_body byte inside = no_body place count refl
-    nowhere (ForwardEntry page slot) no_body byte inside = omega (arith, inside.high)
 
 -- ---- the slots of a page
 

@@ -3,14 +3,10 @@ use Rattle.std.proofs.Common.{◌≡◌, ◌⊎◌, inl, inr, ℕ, ◌+◌, ◌-
 use Rattle.std.specs.Prelude.{IfSome}
 use Rattle.std.proofs.lemmas.List.FromFn.{length-map-range_with_len, get_or-map-range_with_len}
 use Rattle.std.proofs.lemmas.Nat.{from_be_bytes-to_be_bytes_2, from_be_bytes-to_be_bytes_4}
-use Rattle.std.proofs.lemmas.List.{get_or-take}
-use Rattle.rss_base.specs.PageMap.{space_code}
-use Rattle.rss_base.specs.declared.key.PageKey.{PageKey}
-use Rattle.rss_base.specs.declared.key.Space.TheVariants.{Home}
 use Rattle.rss_page.specs.declared.entry_form.Entry.{Entry}
 use Rattle.rss_page.specs.declared.entry_form.Entry.TheVariants.{Empty as EmptyEntry, Here as HereEntry, Forward as ForwardEntry}
 use Rattle.rss_page.specs.Content.{Content, Empty, Here, body_length}
-use Rattle.rss_page.specs.Slotted.{part, entry_bytes, entry_from, entry_of, content_of, entries, place_of, length_of, IsAllowed, IsBody, IsHome, IsWellFormed}
+use Rattle.rss_page.specs.Slotted.{part, entry_bytes, entry_from, entry_of, content_of, entries, place_of, length_of, IsAllowed, IsBody}
 
 -- ---- the list of the contents
 
@@ -86,7 +82,3 @@ pub lent : (page : List ℕ) (place start count bytes : ℕ) → start ≡ place
 lent page place start count bytes at long =
     let same : start + bytes - start ≡ count = omega arith in
     λ i. take (same i) (drop (at i) page)
-
--- a page of the home space begins with the code of that space
-pub home_first : (key : PageKey) (page : List ℕ) → IsWellFormed key page → key.space ≡ Home → IsHome page
-home_first key page is home = sym (get_or-take 16 page 0 0 (omega arith)) ∙ ap (λ (l : List ℕ). get_or l 0 0) is.header ∙ ap space_code home

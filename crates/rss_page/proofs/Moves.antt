@@ -58,8 +58,5 @@ moved_close from page end moved = moved.close ∙ ap (λ (l : List Content). 104
 pub then_becomes : {old mid new : List ℕ} {first second : List Content} → Becomes old mid first → Becomes mid new second → Becomes old new second
 then_becomes one two = record { header = two.header ∙ one.header; slotted = two.slotted; holds = two.holds; formed = λ key was. two.formed key (one.formed key was) }
 
-pub becomes_same : (old : List ℕ) → IsSlotted old → Becomes old old (entries old)
-becomes_same old is = record { header = refl; slotted = is; holds = refl; formed = λ key was. was }
-
 pub moved_none : (from page : List ℕ) (now : List Content) → Becomes from page now → EndBy page 1040 → AreMoved from page 0 1040
 moved_none from page now becomes ends = record { header = becomes.header; slotted = becomes.slotted; same = λ slot few. absurd (omega arith); ends = ends; close = refl }

@@ -1,5 +1,5 @@
 -- A walk over the directory, so long as bodies stand in the order of their slots.
-use Rattle.std.proofs.Common.{◌≡◌, ◌⊎◌, inl, inr, ℕ, ◌+◌, ◌<◌, ◌≤◌, true, None, List, length, get_or, refl, sym, subst, arith}
+use Rattle.std.proofs.Common.{◌≡◌, ◌⊎◌, inl, inr, ℕ, ◌+◌, ◌<◌, ◌≤◌, List, length, get_or, refl, sym, subst, arith}
 use Rattle.std.proofs.lemmas.Bool.{cases_lt, cases_eq}
 use Rattle.rss_page.specs.declared.entry_form.Entry.{Entry}
 use Rattle.rss_page.specs.declared.entry_form.Entry.TheVariants.{Empty as EmptyEntry, Here as HereEntry, Forward as ForwardEntry}
@@ -7,7 +7,6 @@ use Rattle.rss_page.specs.declared.surveying.Survey.{Survey}
 use Rattle.rss_page.specs.Slotted.{entry_at, entry_of, place_of, length_of, IsInBody, IsAllowed, IsEntry}
 use Rattle.rss_page.specs.Surveyed.{StandsFrom, IsOrdered, FirstEndBy, IsSurveyOf, IsOrderedSurveyOf}
 use Rattle.rss_page.proofs.Sums.{body_more}
-use Rattle.rss_page.proofs.Walks.{walk_none}
 
 -- ---- one entry
 
@@ -35,21 +34,6 @@ stands_last page count space end (HereEntry place length) allowed least each = l
 stands_last page count space end (ForwardEntry to_page to_slot) allowed least each = tt
 
 -- ---- the walk
-
-pub ordered_none : (page : List ℕ) (found : Survey) → found.free ≡ 3056 → found.end ≡ 1040 → found.first_empty ≡ None → found.is_vacant ≡ true → IsOrderedSurveyOf page 0 found
-ordered_none page found free end first vacant = record {
-  spelled = λ slot few. absurd (omega arith);
-  order = λ low high lt few. absurd (omega arith);
-  survey = walk_none page found free end first vacant;
-  room = omega (arith, free, end);
-}
-
--- the next slot's body fits in what was free
-pub ordered_fits : (page : List ℕ) (slot : ℕ) (found : Survey) → IsAllowed (get_or page 0 0) (entry_of page slot) → StandsFrom found.end (entry_of page slot) → IsOrderedSurveyOf page slot found → length_of (entry_of page slot) ≤ found.free
-ordered_fits page slot found allowed stands before = elim (stands_within (get_or page 0 0) found.end (entry_of page slot) allowed stands) [
-  | inl none_there ↦ omega (arith, none_there)
-  | inr body ↦ omega (arith, body.0, body.1, before.room)
-]
 
 pub ordered_more : (page : List ℕ) (slot : ℕ) (found now : Survey) → length page ≡ 4096 → slot < 128 → IsEntry (get_or page 0 0) (entry_at page slot) → StandsFrom found.end (entry_of page slot) → IsOrderedSurveyOf page slot found → IsSurveyOf page (slot + 1) now → IsOrderedSurveyOf page (slot + 1) now
 ordered_more page slot found now size low is stands before after =

@@ -63,13 +63,6 @@ area_more {slots = slots} {pages = pages} {first = first} {s = s} {bytes = bytes
       ];
     }
 
-pub no_area : (slots : ℕ) (pages : Pages) (first : ℕ) → BeginsArea slots pages first 0 []
-no_area slots pages first = record {
-  long = omega arith;
-  begins = record { entries = λ s lt. absurd (omega arith); distinct = λ s t key one two. cc };
-  zeros = λ s past lt. absurd (omega arith);
-}
-
 -- all entries
 pub area_all : {slots : ℕ} {pages : Pages} {first at : ℕ} {owners : List (Option PageKey)} → at ≡ map_pages slots → BeginsArea slots pages first (512 * at) owners → IsMap slots pages first owners
 area_all all area = record { count = area.long ∙ omega arith; begins = area.begins; rest = λ s past lt. area.zeros s past (omega arith) }

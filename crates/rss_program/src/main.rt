@@ -33,7 +33,9 @@ fn main(rt: HostRuntime) -> ExitCode {
         Err(status) => status,
     };
     if status == Status::Words {
-        let _ = eprintln!(rt; "usage: rss format FILE N G | run FILE | gen NUMBER COUNT");
+        let _ = eprintln!(rt;
+            "usage: rss format FILE N G | run FILE | gen NUMBER COUNT | trial FILE NUMBER COUNT"
+        );
     }
     exit_code(status)
 }

@@ -11,14 +11,17 @@ use Rattle.rss_base.specs.declared.fault.PageFault.TheVariants.{Device as Device
 use Rattle.rss_base.specs.declared.key.PageKey.{PageKey}
 use Rattle.rss_base.specs.declared.place.Place.{Place}
 use Rattle.rss_base.specs.declared.place.Place.TheVariants.{Log as LogPlace}
+use Rattle.rss_base.specs.declared.link.LinkEntry.{LinkEntry}
 use Rattle.rss_base.specs.declared.relation.RelationEntry.{RelationEntry}
 use Rattle.rss_base.specs.declared.change.Change as told
-use Rattle.rss_base.specs.Listings.{Listing, relation_at}
+use Rattle.rss_base.specs.declared.change.Change.TheVariants.{Insert, Delete, Update, Connect, Disconnect}
+use Rattle.rss_base.specs.Listings.{Listing, relation_at, link_at}
 use Rattle.rss_base.proofs.Steps.{rests, then, within}
 use Rattle.rss_log.specs.Logs.{LogView}
 use Rattle.rss_model.specs.Tables.{Tables}
 use Rattle.rss_access.specs.Written.{content_of}
-use Rattle.rss_access.specs.Changes.{AccessView, alter_cost, Takes, HasRoom, applied, pages_of_relation, number_told, Makes, NoneApplies, CanAlter, CanApply}
+use Rattle.rss_members.specs.Calls.{pages_in_link}
+use Rattle.rss_access.specs.Changes.{AccessView, alter_cost, Takes, HasRoomFor, applied, pages_of_relation, pages_told, Makes, NoneApplies, CanAlter, CanApply}
 use Rattle.rss_access.proofs.Altering.{applies_by}
 use Rattle.rss_access.proofs.Rerooting.{same_images}
 use Rattle.rss_access.proofs.Telling.{none_applies}
@@ -29,7 +32,7 @@ use Rattle.rss_restart.specs.Walks.Counted.{counts_none, counts_more}
 use Rattle.rss_catalog.specs.Catalogs.{CatalogView}
 use Rattle.rss_restart.specs.Restarting.{KeepsCatalog}
 use Rattle.rss_restart.proofs.Keeping.{keeps_itself, keeps_then, keeps_made}
-use Rattle.rss_restart.proofs.Moving.{walks_on, no_step_walks, told_once, directed_tuple}
+use Rattle.rss_restart.proofs.Moving.{walks_on, no_step_walks, told_once}
 
 -- ---- lists
 
@@ -178,9 +181,20 @@ walks_within few walks = record { made = walks.made; few = omega (arith, few, wa
 
 -- ---- one change
 
-pub content_told : (listing : Listing) (found : Option RelationEntry) (key : PageKey) → pages_of_relation listing found key → content_of listing key
-content_told listing None key is = absurd is
-content_told listing (Some relation) key is = is.1
+content_of_relation : (listing : Listing) (found : Option RelationEntry) (key : PageKey) → pages_of_relation listing found key → content_of listing key
+content_of_relation listing None key is = absurd is
+content_of_relation listing (Some relation) key is = is.1
+
+content_of_link : (listing : Listing) (number : ℕ) (found : Option LinkEntry) (key : PageKey) → pages_in_link listing number found key → content_of listing key
+content_of_link listing number None key is = absurd is
+content_of_link listing number (Some link) key is = inl is.1.1
+
+pub content_told : (listing : Listing) (change : told.Change) (key : PageKey) → pages_told listing change key → content_of listing key
+content_told listing (Insert number tid values) key is = content_of_relation listing (relation_at listing number) key is
+content_told listing (Delete number tid values) key is = content_of_relation listing (relation_at listing number) key is
+content_told listing (Update number tid from to) key is = content_of_relation listing (relation_at listing number) key is
+content_told listing (Connect link parent child left) key is = content_of_link listing link (link_at listing link) key is
+content_told listing (Disconnect link parent child left) key is = content_of_link listing link (link_at listing link) key is
 
 same_place : {T : Type 0} {one two : Place} → ◌≡◌ {A = Result T PageFault} (Err (Damaged one)) (Err (Damaged two)) → two ≡ one
 same_place is = cc (is)
@@ -200,7 +214,7 @@ walks_refused at view low high = record {
 
 module _ {T : Type 0} {change : told.Change} {old new : AccessView} {result : Result T PageFault} (makes : Makes change old new result) where
   made_step : PagesStep (content_of old.catalog.listing) (1 * alter_cost old.pages.slots) (1 * alter_cost old.pages.slots) old.pages new.pages
-  made_step = within (λ key is. content_told old.catalog.listing (relation_at old.catalog.listing (number_told change)) key is) (omega arith) (omega arith) makes.step
+  made_step = within (λ key is. content_told old.catalog.listing change key is) (omega arith) (omega arith) makes.step
 
 -- a change was made
 pub walks_made : {T : Type 0} {log : LogView} {change : told.Change} {old new : AccessView} (value : T) → Makes change old new (Ok value) → Walks log 1 old new (Ok value)
@@ -244,14 +258,14 @@ walks_recorded at NoMemory low high makes = absurd (makes.memory refl)
 pub none_told : {log : LogView} (next : Turn) {view : AccessView} → TellsNone log next.at → NoStep log next view
 none_told next none told_change tells room tables change can = none told_change tells
 
-none_applied : {log : LogView} (next : Turn) {view : AccessView} {told_change : told.Change} → TellsAt log next.at told_change → (HasRoom view (number_told (directed next.way told_change)) → NoneApplies (directed next.way told_change) view) → NoStep log next view
+none_applied : {log : LogView} (next : Turn) {view : AccessView} {told_change : told.Change} → TellsAt log next.at told_change → (HasRoomFor view (directed next.way told_change) → NoneApplies (directed next.way told_change) view) → NoStep log next view
 none_applied next {view = view} {told_change = told_change} tells none other tells_too room tables change can =
     let same = told_once tells_too tells in
-    none (subst (λ (c : told.Change). HasRoom view (number_told (directed next.way c))) same room) tables change (subst (λ (c : told.Change). CanApply view (directed next.way c) tables change) same can)
+    none (subst (λ (c : told.Change). HasRoomFor view (directed next.way c)) same room) tables change (subst (λ (c : told.Change). CanApply view (directed next.way c) tables change) same can)
 
 pub none_recorded : {T U : Type 0} {log : LogView} (next : Turn) {old new : AccessView} {told_change : told.Change} (fault : PageFault) (place : Place) → CanAlter old → TellsAt log next.at told_change → Makes {T = U} (directed next.way told_change) old new (Err fault) → ◌≡◌ {A = Result T PageFault} (Err (recorded next.at fault)) (Err (Damaged place)) → IsTold old.pages.disk → NoStep log next old
 none_recorded next DeviceFailed place may tells makes is told = absurd (cc (is))
-none_recorded next {told_change = told_change} (Damaged found) place may tells makes is told = none_applied next tells (λ room. none_applies may told (directed_tuple next.way told_change tells.tuple) (makes.damaged found refl told) room)
+none_recorded next {told_change = told_change} (Damaged found) place may tells makes is told = none_applied next tells (λ room. none_applies may told (makes.damaged found refl told) room)
 none_recorded next NoMemory place may tells makes is told = absurd (cc (is))
 
 -- ---- a change that is made
@@ -260,8 +274,8 @@ pub steps_made : {T : Type 0} {log : LogView} (next : Turn) {old new : AccessVie
 steps_made next {told_change = told_change} value tells makes = record {
   told_change = told_change;
   tells = tells;
-  applies = applies_by (directed next.way told_change) (Ok value) (directed_tuple next.way told_change tells.tuple) makes;
-  alters = makes.alters;
+  applies = applies_by (directed next.way told_change) (Ok value) makes;
+  relists = makes.relists;
   takes = makes.takes;
 }
 
@@ -278,7 +292,7 @@ passed_on {U = U} {result = result} {fault = fault} {place = place} is damaged =
 
 pub counted_both : {log : LogView} {one two : List Turn} {old mid new : CatalogView} → Counted log one old mid → Counted log two mid new → Counted log (one ++ two) old new
 counted_both counts_none rest = rest
-counted_both (counts_more tells at counts front) rest = counts_more tells at counts (counted_both front rest)
+counted_both (counts_more tells relists front) rest = counts_more tells relists (counted_both front rest)
 
 pub counted_more : {log : LogView} {turns : List Turn} {next : Turn} {start : CatalogView} {old new : AccessView} → Counted log turns start old.catalog → StepsTo log next old new → Counted log (turns ++ next ∷ []) start new.catalog
-counted_more counted step = counted_both counted (counts_more step.tells step.alters.listed step.alters.counts counts_none)
+counted_more counted step = counted_both counted (counts_more step.tells step.relists counts_none)

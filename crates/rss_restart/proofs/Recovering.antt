@@ -65,10 +65,10 @@ module _ {at : AccessView} {log : LogView} {checkpoint : ℕ} {r : Recovery} (ca
   restart = restarts log.head log.end r.saved.contents r.base (as_entries r.older) (as_entries r.newer) rise can.recovers
 
   backs : Runs (ground_of at log) r.saved (middle r) (map (turn Back) (map (λ l. l.at) (lost r))) (changes_of (changes_in (lost r)))
-  backs = undo_runs (ground_of at log) can.spells.no_links r.saved r.saved.contents (lost r) have_sources restart.undo can.way.undo
+  backs = undo_runs (ground_of at log) r.saved r.saved.contents (lost r) have_sources restart.undo can.way.undo
 
   agains : Runs (ground_of at log) (middle r) (record r.saved { contents = redone (middle r).contents (as_entries r.newer) }) (map (turn Again) (redone_at r.newer)) (redone_of r.newer)
-  agains = redo_runs (ground_of at log) can.spells.no_links r.saved (middle r).contents r.newer (all_back (Stands log) r.older r.newer stand) (all_back (λ l. Says at.catalog.listing l.told l.is) r.older r.newer say) can.means.later restart.redo can.way.redo
+  agains = redo_runs (ground_of at log) r.saved (middle r).contents r.newer (all_back (Stands log) r.older r.newer stand) (all_back (λ l. Says at.catalog.listing l.told l.is) r.older r.newer say) can.means.later restart.redo can.way.redo
 
   -- all of them can be made
   walk : CanWalk log at r.saved (backs.moves ++ agains.moves)

@@ -2,7 +2,6 @@
 use Rattle.std.proofs.Common.{◌≡◌, ℕ, ◌+◌, ◌≤◌, List, [], ◌∷◌, refl, arith}
 use Rattle.std.specs.Prelude.{Bool, true, false, ◌&&◌, if◌then◌else◌, map}
 use Rattle.std.specs.List.{AllByRecursion}
-use Rattle.rss_base.specs.Listings.{HasNoLinks}
 use Rattle.rss_base.specs.LogRecords.{BeginsWith, record_size}
 use Rattle.rss_base.specs.declared.name.Name.{Name}
 use Rattle.rss_base.specs.declared.change.Change as told
@@ -21,7 +20,6 @@ use Rattle.rss_restart.specs.declared.restarting.Way.TheVariants.{Again}
 use Rattle.rss_restart.specs.Surveys.{redone_at}
 use Rattle.rss_restart.specs.Restarting.{redone_of}
 use Rattle.rss_restart.specs.Walks.{turn}
-use Rattle.rss_restart.proofs.Moving.{meant_tuple}
 use Rattle.rss_restart.proofs.Runs.{Ground, Runs, runs_none, runs_more}
 use Rattle.rss_restart.proofs.Sources.{Stands}
 
@@ -33,7 +31,7 @@ one_counted : (b : Bool) (n : ℕ) → one_if b + n ≤ (if b then n + 1 else n)
 one_counted true n = omega arith
 one_counted false n = omega arith
 
-module _ (ground : Ground) (none : HasNoLinks ground.listing) (saved : Tables) where
+module _ (ground : Ground) (saved : Tables) where
   -- a change that survives or doesn't
   redo_change : (next : Tables) (contents : Contents) (at by : ℕ) (told_change : told.Change) (change : Change) (rest : List ℕ) (positions : List ℕ) (counts : Name → ℕ) → BeginsWith (bytes_from ground.log at) (records.Change by told_change) rest → IsChangeTold ground.listing by told_change change
       → (does : Bool) → (does ≡ true → Means ground.listing told_change change) → (does ≡ true → content contents change.item ≡ change.old) → FitWith ground.slots saved contents
@@ -42,7 +40,7 @@ module _ (ground : Ground) (none : HasNoLinks ground.listing) (saved : Tables) w
   redo_change next contents at by told_change change rest positions counts begins tells true means finds fit runs =
       runs_more counts (λ relation. if counts_for change.item relation then counts relation + 1 else counts relation) (record { next = turn Again at; told_change = told_change; change = change })
       (record {
-        tells = record { by = by; rest = rest; begins = begins; tuple = meant_tuple ground.listing told_change change none (means refl) };
+        tells = record { by = by; rest = rest; begins = begins };
         is = record { maker = refl; item = tells.item };
         means = means refl;
       })

@@ -1,26 +1,27 @@
 -- Room for the changes that are still to be made, with the images of their relations.
-use Rattle.std.proofs.Common.{◌≡◌, ℕ, ◌+◌, ◌≤◌, List, [], ◌∷◌, refl, sym, ◌∙◌, ap, arith}
+use Rattle.std.proofs.Common.{◌≡◌, ◌⊎◌, inl, inr, ℕ, ◌+◌, ◌≤◌, List, [], ◌∷◌, refl, sym, ◌∙◌, ap, arith}
 use Rattle.std.specs.Prelude.{Bool, true, false, if◌then◌else◌, ◌==◌, Option, Some, None, option_map, unwrap_or, sum_by, map}
-use Rattle.std.proofs.lemmas.Bool.{eqb-true}
+use Rattle.std.proofs.lemmas.Bool.{cases_eq, eqb-true}
 use Rattle.std.proofs.lemmas.List.Sums.{sum_by-cons, sum_by-le-sum_by}
-use Rattle.std.proofs.lemmas.Option.{same_Some}
 use Rattle.rss_base.specs.TupleTypes.{kinds, chosen, key_width}
-use Rattle.rss_base.specs.Listings.{Listing, numbered, relation_at, field_numbers, with_count}
+use Rattle.rss_base.specs.Listings.{Listing, relation_at, field_numbers}
 use Rattle.rss_base.specs.declared.name.Name.{Name}
 use Rattle.rss_base.specs.declared.field.FieldDef.{FieldDef}
 use Rattle.rss_base.specs.declared.image.ImageEntry.{ImageEntry}
 use Rattle.rss_base.specs.declared.relation.RelationEntry.{RelationEntry}
+use Rattle.rss_base.specs.declared.change.Change as told
+use Rattle.rss_base.specs.declared.change.Change.TheVariants.{Insert, Delete, Update, Connect, Disconnect}
 use Rattle.rss_catalog.specs.Catalogs.{CatalogView}
 use Rattle.rss_model.specs.Meanings.{rootless}
 use Rattle.rss_model.specs.Meter.{bound_of}
 use Rattle.rss_model.specs.Spares.{bound_by, bound_at, listed_bound}
-use Rattle.rss_model.proofs.LogLists.{by_same}
 use Rattle.rss_model.proofs.Saving.{more_bound}
 use Rattle.rss_entries.specs.Rooms.{image_places}
 use Rattle.rss_entries.proofs.Rooms.{room_within}
+use Rattle.rss_access.specs.Told.{IsTupleRecord, number_told}
 use Rattle.rss_access.specs.Changes.{AccessView, HasRoom}
-use Rattle.rss_access.specs.Relisted.{Recounted}
-use Rattle.rss_access.proofs.Numbered.{counted_here, counted_else}
+use Rattle.rss_access.specs.Relisted.{Relists}
+use Rattle.rss_access.proofs.Relisting.{WasCounted, relists_at}
 use Rattle.rss_restart.specs.Restarting.{entries_with}
 
 -- ---- how many entries may come
@@ -87,29 +88,39 @@ bounds_less old new before after images had =
             let more = more_bound (width relation.fields) (after image.relation) (before image.relation) its.less in
             omega (arith, more, ap (bound_by before image) its.at, ap (λ (fields : List FieldDef). bound_of (width fields) (before image.relation)) its.same)
 
--- ---- one change fewer is to come
+-- ---- one change is made, and one fewer is to come
 
-module _ {number live : ℕ} {relation : RelationEntry} {old new : CatalogView} (counted : Recounted number live relation old new) (at : relation_at old.listing number ≡ Some relation) (before after : Name → ℕ) (less : live + after relation.name ≤ relation.live + before relation.name) (fewer : (name : Name) → after name ≤ before name) where
+tuple_or_chain : (change : told.Change) → IsTupleRecord change ⊎ (IsTupleRecord change → ⊥)
+tuple_or_chain (Insert number tid values) = inl tt
+tuple_or_chain (Delete number tid values) = inl tt
+tuple_or_chain (Update number tid from to) = inl tt
+tuple_or_chain (Connect link parent child left) = inr (λ tuple. tuple)
+tuple_or_chain (Disconnect link parent child left) = inr (λ tuple. tuple)
+
+module _ {change : told.Change} {old new : CatalogView} (relists : Relists change old new) (before after : Name → ℕ) (fewer : (name : Name) → after name ≤ before name)
+    (one : IsTupleRecord change → (relation : RelationEntry) → relation_at old.listing (number_told change) ≡ Some relation → 1 + after relation.name ≤ before relation.name) where
+  less_by : (n : ℕ) (now : RelationEntry) (was : WasCounted change old.listing n now) → now.live + after was.was.name ≤ was.was.live + before was.was.name
+  less_by n now was = elim (tuple_or_chain change) [
+    | inl tuple ↦ elim (cases_eq n (number_told change)) [
+      | inl here ↦ omega (arith, was.few, one tuple was.was (ap (relation_at old.listing) (sym here) ∙ was.at))
+      | inr other ↦ kept (was.same (λ is here. other here))
+    ]
+    | inr chain ↦ kept (was.same (λ tuple here. chain tuple))
+  ]
+    where
+      kept : now ≡ was.was → now.live + after was.was.name ≤ was.was.live + before was.was.name
+      kept same = omega (arith, ap (λ (r : RelationEntry). r.live) same, fewer was.was.name)
+
   still : (n : ℕ) (now : RelationEntry) → relation_at new.listing n ≡ Some now → HadMore old.listing n (entries_with new.listing after n) (entries_with old.listing before n) now.fields
-  still n now is = by_same n number
-      (λ here.
-      let one : with_count live relation ≡ now = same_Some _ _ (sym (ap (λ (l : List (Option RelationEntry)). numbered l number) counted.relations ∙ counted_here old.listing number live relation at) ∙ ap (relation_at new.listing) (sym here) ∙ is) in
-      let was : relation_at old.listing n ≡ Some relation = ap (relation_at old.listing) here ∙ at in
+  still n now is =
+      let was = relists_at relists n now is in
       record {
-        was = relation;
-        at = was;
-        same = ap (λ (r : RelationEntry). r.fields) one;
-        less = omega (arith, less, entries_are new.listing after n now is, entries_are old.listing before n relation was, ap (λ (r : RelationEntry). r.live) one, ap (λ (r : RelationEntry). after r.name) one);
-      })
-      (λ other.
-      let was : relation_at old.listing n ≡ Some now = sym (ap (λ (l : List (Option RelationEntry)). numbered l n) counted.relations ∙ counted_else old.listing number live relation at n other) ∙ is in
-      record {
-        was = now;
-        at = was;
-        same = refl;
-        less = omega (arith, fewer now.name, entries_are new.listing after n now is, entries_are old.listing before n now was);
-      })
+        was = was.was;
+        at = was.at;
+        same = sym (ap (λ (r : RelationEntry). r.fields) was.is);
+        less = omega (arith, less_by n now was, entries_are new.listing after n now is, entries_are old.listing before n was.was was.at, ap (λ (r : RelationEntry). after r.name) was.is);
+      }
 
   -- images may come to have no more pages than before
   pub bound_left : listed_bound new.listing (entries_with new.listing after) ≤ listed_bound old.listing (entries_with old.listing before)
-  bound_left = bounds_less old.listing new.listing (entries_with old.listing before) (entries_with new.listing after) counted.images still
+  bound_left = bounds_less old.listing new.listing (entries_with old.listing before) (entries_with new.listing after) relists.images still

@@ -19,9 +19,6 @@ behind log at r rest low is =
     ∙ drop_at (record_bytes r) rest (record_size r) refl
 
 module _ (log : LogView) where
-  pub none_stand : (at : ℕ) → Stand log at [] at
-  none_stand at = record { placed = refl; bytes = refl }
-
   module _ (from until : ℕ) (p : Placed) (ps : List Placed) (low : log.head ≤ from) (stand : Stand log from (p ∷ ps) until) where
     front_bytes : bytes_from log from ≡ record_bytes p.is ++ (spelled ps ++ bytes_from log until)
     front_bytes = stand.bytes ∙ append_assoc (record_bytes p.is) (spelled ps) (bytes_from log until)

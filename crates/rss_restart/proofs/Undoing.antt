@@ -3,7 +3,7 @@ use Rattle.std.proofs.Common.{◌≡◌, List, [], ◌∷◌, refl, sym, ◌∙�
 use Rattle.std.specs.Prelude.{map}
 use Rattle.std.specs.List.{AllByRecursion}
 use Rattle.std.proofs.lemmas.List.Sums.{sum_by-cons}
-use Rattle.rss_base.specs.Listings.{Listing, HasNoLinks}
+use Rattle.rss_base.specs.Listings.{Listing}
 use Rattle.rss_base.specs.declared.change.Change as told
 use Rattle.rss_base.specs.declared.change.Change.TheVariants.{Insert, Delete, Update, Connect, Disconnect}
 use Rattle.rss_model.specs.Tables.{Contents, Tables}
@@ -13,11 +13,10 @@ use Rattle.rss_model.specs.Records.{Listed, changes_in}
 use Rattle.rss_model.specs.Restart.{UndoFinds, UndoFits}
 use Rattle.rss_model.specs.Meanings.{item_told}
 use Rattle.rss_model.proofs.Counts.{one_if}
-use Rattle.rss_access.specs.Changes.{reversed, turned}
+use Rattle.rss_access.specs.Told.{reversed, turned}
 use Rattle.rss_access.proofs.Telling.{reverse_means}
 use Rattle.rss_restart.specs.declared.restarting.Way.TheVariants.{Back}
 use Rattle.rss_restart.specs.Walks.{Move, IsMove, turn}
-use Rattle.rss_restart.proofs.Moving.{meant_tuple}
 use Rattle.rss_restart.proofs.Runs.{Ground, Runs, runs_none, runs_more}
 use Rattle.rss_restart.proofs.Sources.{IsSource}
 
@@ -31,10 +30,10 @@ item_same listing (Disconnect link parent child left) = refl
 abbrev back : (l : Listed) → told.Change → Move
 back l told_change = record { next = turn Back l.at; told_change = told_change; change = turned l.change }
 
-module _ (ground : Ground) (none : HasNoLinks ground.listing) where
+module _ (ground : Ground) where
   is_back : (l : Listed) (source : IsSource ground.listing ground.log l) → IsMove ground.listing ground.log (back l source.told_change)
   is_back l source = record {
-    tells = record { by = source.by; rest = source.rest; begins = source.begins; tuple = meant_tuple ground.listing source.told_change l.change none source.means };
+    tells = record { by = source.by; rest = source.rest; begins = source.begins };
     is = record { maker = refl; item = source.is.item ∙ sym (item_same ground.listing source.told_change) };
     means = reverse_means source.told_change ground.listing l.change source.means;
   }

@@ -4,7 +4,7 @@ use Rattle.rss_base.specs.DiskRule.{IsTold}
 use Rattle.rss_base.specs.Faults.{Rises}
 use Rattle.rss_base.specs.Sizes.{system_pages}
 use Rattle.rss_base.specs.Steps.{PagesStep, no_page}
-use Rattle.rss_base.specs.Listings.{Listing, ListingFits, HasNoLinks, relation_at}
+use Rattle.rss_base.specs.Listings.{Listing, ListingFits, relation_at}
 use Rattle.rss_base.specs.declared.fault.PageFault.{PageFault}
 use Rattle.rss_base.specs.declared.fault.PageFault.TheVariants.{Device as DeviceFailed, Damaged, NoMemory}
 use Rattle.rss_base.specs.declared.name.Name.{Name}
@@ -15,7 +15,7 @@ use Rattle.rss_model.specs.Meter.{changes_of}
 use Rattle.rss_model.specs.Records.{changes_in}
 use Rattle.rss_model.specs.Restart.{losers}
 use Rattle.rss_model.specs.Recovers.{lists_at, Recovers, WayFits}
-use Rattle.rss_model.specs.Meanings.{Logged, as_entries, is_redone, is_change_of, rootless, IsLogged}
+use Rattle.rss_model.specs.Meanings.{Logged, as_entries, is_redone, is_change_of, rootless, endless, IsLogged}
 use Rattle.rss_model.specs.Spares.{listed_bound}
 use Rattle.rss_model.specs.Store.{SpellsTables}
 use Rattle.rss_access.specs.Changes.{AccessView, alter_cost, Takes}
@@ -79,12 +79,13 @@ Recovered log checkpoint old new =
 abbrev pub NoneRecovered : LogView → ℕ → AccessView → Type 0
 NoneRecovered log checkpoint at = (r : Recovery) → CanRestart at log checkpoint r → ⊥
 
--- What is kept of the catalog, whatever was done: its listing is sound still, it lists the same images, but for where their trees begin and how many levels they have, no link where it listed none, and each of its pages that isn't to be written is as it spells it.
+-- What is kept of the catalog, whatever was done: its listing is sound still, it lists the same images, but for where their trees begin and how many levels they have, and the same links, but for the ends of their chains, and each of its pages that isn't to be written is as it spells it.
 pub record KeepsCatalog (old new : AccessView) : Type 0 where
   pub fits : ListingFits old.catalog.listing → ListingFits new.catalog.listing
   pub images : map (option_map rootless) new.catalog.listing.images
       ≡ map (option_map rootless) old.catalog.listing.images
-  pub no_links : HasNoLinks old.catalog.listing → HasNoLinks new.catalog.listing
+  pub links : map (option_map endless) new.catalog.listing.links
+      ≡ map (option_map endless) old.catalog.listing.links
   pub places : length new.catalog.pending ≡ length old.catalog.pending
   pub written : IsTold old.pages.disk → length old.catalog.pending ≡ system_pages
       → AreWritten old.pages.held old.catalog → AreWritten new.pages.held new.catalog

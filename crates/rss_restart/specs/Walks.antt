@@ -1,12 +1,11 @@
 -- The way of a restart: one change after another is undone, or done again, as the log tells it.
-use Rattle.std.specs.Prelude.{◌≡◌, ℕ, ◌+◌, ◌*◌, ◌≤◌, List, [], ◌∷◌, ◌++◌, map, length, count_by, Result, Err, IsErrOf, OnOk, ⊤, Some}
+use Rattle.std.specs.Prelude.{◌≡◌, ℕ, ◌+◌, ◌*◌, ◌≤◌, List, [], ◌∷◌, ◌++◌, map, length, count_by, Result, Err, IsErrOf, OnOk, ⊤}
 use Rattle.std.specs.List.{AllByRecursion}
 use Rattle.rss_base.specs.DiskRule.{IsTold}
 use Rattle.rss_base.specs.Faults.{Rises}
 use Rattle.rss_base.specs.Steps.{PagesStep}
-use Rattle.rss_base.specs.Listings.{Listing, relation_at}
+use Rattle.rss_base.specs.Listings.{Listing}
 use Rattle.rss_base.specs.declared.name.Name.{Name}
-use Rattle.rss_base.specs.declared.relation.RelationEntry.{RelationEntry}
 use Rattle.rss_base.specs.LogRecords.{BeginsWith}
 use Rattle.rss_base.specs.declared.fault.PageFault.{PageFault}
 use Rattle.rss_base.specs.declared.fault.PageFault.TheVariants.{Device as DeviceFailed, Damaged, NoMemory}
@@ -25,9 +24,10 @@ use Rattle.rss_model.specs.Restart.{losers}
 use Rattle.rss_model.specs.Recovers.{lists_at}
 use Rattle.rss_model.specs.Meanings.{IsChangeTold, Means, Logged, as_entries}
 use Rattle.rss_model.specs.Store.{SpellsTables}
-use Rattle.rss_access.specs.Changes.{AccessView, IsTupleRecord, reversed, applied, alter_cost, Alters, Applies, Takes, HasRoom, CanApply, number_told, count_after}
+use Rattle.rss_access.specs.Told.{reversed}
+use Rattle.rss_access.specs.Changes.{AccessView, applied, alter_cost, Applies, Takes, HasRoomFor, CanApply}
 use Rattle.rss_entries.specs.Rooms.{image_places}
-use Rattle.rss_access.specs.Relisted.{Recounted}
+use Rattle.rss_access.specs.Relisted.{Relists}
 use Rattle.rss_access.specs.Written.{content_of}
 use Rattle.rss_restart.specs.declared.restarting.Way.{Way}
 use Rattle.rss_restart.specs.declared.restarting.Way.TheVariants.{Back, Again}
@@ -55,30 +55,29 @@ recorded at DeviceFailed = DeviceFailed
 recorded at (Damaged place) = Damaged (LogPlace at)
 recorded at NoMemory = NoMemory
 
--- the record at a position is that of this change of a tuple
+-- the record at a position is that of this change
 pub record TellsAt (log : LogView) (at : ℕ) (change : told.Change) : Type 0 where
   pub by : ℕ
   pub rest : List ℕ
   pub begins : BeginsWith (bytes_from log at) (records.Change by change) rest
-  pub tuple : IsTupleRecord change
 
--- it isn't that of a change of a tuple
+-- it isn't that of a change
 abbrev pub TellsNone : LogView → ℕ → Type 0
 TellsNone log at = (change : told.Change) → TellsAt log at change → ⊥
 
--- The change at this position is made: it is applied as the log tells it, and takes two home or overflow pages at most.
+-- The change at this position is made: it is applied as the log tells it, the catalog lists what it leaves, and it takes two home or overflow pages at most.
 pub record StepsTo (log : LogView) (next : Turn) (old new : AccessView) : Type 0 where
   pub told_change : told.Change
   pub tells : TellsAt log next.at told_change
   pub applies : Applies (directed next.way told_change) old new
-  pub alters : Alters (directed next.way told_change) old new
+  pub relists : Relists (directed next.way told_change) old.catalog new.catalog
   pub takes : Takes 2 old.pages new.pages
 
 -- there are no tables from which it can be made
 abbrev pub NoStep : LogView → Turn → AccessView → Type 0
 NoStep log next at =
     (told_change : told.Change) → TellsAt log next.at told_change
-    → HasRoom at (number_told (directed next.way told_change)) → (tables : Tables) (change : Change)
+    → HasRoomFor at (directed next.way told_change) → (tables : Tables) (change : Change)
     → CanApply at (directed next.way told_change) tables change → ⊥
 
 -- ---- one after another
@@ -114,7 +113,7 @@ abbrev pub MovesFit : ℕ → Tables → List Move → Type 0
 MovesFit slots tables [] = Fits slots tables
 MovesFit slots tables (m ∷ moves) = Fits slots tables × MovesFit slots (applied tables m.change) moves
 
--- how many of them are of a relation's tuples
+-- how many of them are of a relation's tuples: one of a chain is of none
 abbrev pub moves_of : List Move → Name → ℕ
 moves_of moves relation = count_by (λ m. counts_for m.change.item relation) moves
 
@@ -155,14 +154,11 @@ pub record Walks {T : Type 0} (log : LogView) (most : ℕ) (old new : AccessView
 
 -- ---- the catalog
 
--- The counts go with these changes, one after another: each is told at its position, and its relation is listed and counts it.
+-- The counts go with these changes, one after another: each is told at its position, and its relation counts it where it is one of a tuple.
 pub data Counted (log : LogView) : List Turn → CatalogView → CatalogView → Type 0 where
   counts_none : {catalog : CatalogView} → Counted log [] catalog catalog
-  counts_more : {next : Turn} {turns : List Turn} {told_change : told.Change} {relation : RelationEntry}
-      {old mid new : CatalogView} → TellsAt log next.at told_change
-      → relation_at old.listing (number_told (directed next.way told_change)) ≡ Some relation
-      → Recounted (number_told (directed next.way told_change))
-      (count_after (directed next.way told_change) relation.live) relation old mid
+  counts_more : {next : Turn} {turns : List Turn} {told_change : told.Change} {old mid new : CatalogView}
+      → TellsAt log next.at told_change → Relists (directed next.way told_change) old mid
       → Counted log turns mid new → Counted log (next ∷ turns) old new
 
 -- the changes that are undone, and then those that are done again

@@ -4,7 +4,7 @@ ghost use Rattle.rss_base.specs.DiskRule.{IsTold};
 ghost use Rattle.rss_base.specs.declared.fault.PageFault.TheVariants.{Damaged};
 ghost use Rattle.rss_base.specs.declared.place.Place.{Place as AnyPlace};
 ghost use Rattle.rss_model.specs.Meanings.{Logged};
-ghost use Rattle.rss_access.specs.Changes.{both, IsTupleRecord, CanAlter, Makes};
+ghost use Rattle.rss_access.specs.Changes.{both, CanAlter, Makes};
 ghost use Rattle.rss_restart.specs.Restarting.{Recovered, NoneRecovered, RestartPasses};
 ghost use Rattle.rss_restart.specs.Surveys.{IsChangeAt, IsLogOf};
 ghost use Rattle.rss_restart.specs.Walks.{turn, directed, recorded, TellsAt, TellsNone, StepsTo, NoStep};
@@ -29,13 +29,13 @@ enum Way {
 
 /// Brings the pages, which have the tables of a log's last checkpoint, to the tables that the log
 /// recovers: undoes what was listed at the checkpoint and doesn't survive, the newest first, and
-/// then does again what survives behind it, in the order of the log. As yet no change of a chain may
-/// be among them.
+/// then does again what survives behind it, in the order of the log: changes of tuples and of
+/// chains.
 ///
-/// A record that is out of form, or that tells no change of a tuple where one is to be made, a
-/// change that isn't found as it is told, and one for which there is no room, are `Damaged`
-/// at the record's position. Whether a Checkpoint record stands at `checkpoint` isn't tested. After
-/// such a fault, or one of the device, some of the changes are made; where memory ran out, none is.
+/// A record that is out of form, or that tells no change where one is to be made, a change that
+/// isn't found as it is told, and one for which there is no room, are `Damaged` at the record's
+/// position. Whether a Checkpoint record stands at `checkpoint` isn't tested. After such a fault, or
+/// one of the device, some of the changes are made; where memory ran out, none is.
 pub fn restart<P: Pages>(
     alloc: Global,
     tuples: &mut Store<P>,
@@ -129,7 +129,6 @@ fn direct<P: Pages>(
     way: Way,
 ) -> Result<(), PageFault>
     requires may { CanAlter (both (P.view tuples.old.pages) catalog.old) }
-    requires tuple { IsTupleRecord change.now }
     ensures { Makes (directed way change.now) (both (P.view tuples.old.pages) catalog.old)
         (both (P.view tuples.new.pages) catalog.new) result }
 {
@@ -150,7 +149,7 @@ fn at_record(fault: PageFault, position: u64) -> PageFault
     }
 }
 
-/// The change of a tuple whose record begins at a position.
+/// The change whose record begins at a position.
 pub fn change_at(log: &Log, position: u64) -> Option<Change>
     requires low { log.now.head ≤ position }
     requires high { position ≤ log.now.end }
@@ -160,8 +159,5 @@ pub fn change_at(log: &Log, position: u64) -> Option<Change>
     let (LogRecord::Change(_, change), _) = log.try_at(position)? else {
         return None;
     };
-    match change {
-        Change::Connect { .. } | Change::Disconnect { .. } => None,
-        _ => Some(change),
-    }
+    Some(change)
 }

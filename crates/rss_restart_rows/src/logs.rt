@@ -16,13 +16,16 @@ pub(crate) const TUPLES: usize = 8;
 /// The number of their relation.
 pub(crate) const RELATION: u8 = 1;
 
+/// The number of the link, in whose one chain they stand.
+const LINK: u8 = 1;
+
 /// How many log pages the device has.
 const LOG_PAGES: u32 = 16;
 
 /// What each tuple holds, where there is one.
 pub(crate) type Values = [Option<u8>; TUPLES];
 
-/// What a transaction does, by its number.
+/// What a transaction does, by its number. Beside the log only values are kept, and not the chain.
 #[derive(Clone, Copy, Debug)]
 pub(crate) enum Step {
     /// It gives a tuple this value, or takes it away.
@@ -31,6 +34,9 @@ pub(crate) enum Step {
     Back(u32, usize),
     End(u32),
     Abort(u32),
+    /// It puts a tuple into the chain, right behind another one or first, or takes it out there.
+    Join(u32, usize, Option<usize>),
+    Leave(u32, usize, Option<usize>),
     /// The tables are saved.
     Checkpoint,
 }
@@ -88,6 +94,8 @@ impl Written {
             Step::Back(by, count) => self.back(by, count),
             Step::End(by) => self.end(by),
             Step::Abort(by) => self.abort(by),
+            Step::Join(by, tuple, left) => self.relink(by, connect(tuple, left)),
+            Step::Leave(by, tuple, left) => self.relink(by, disconnect(tuple, left)),
             Step::Checkpoint => self.save(),
         }
     }
@@ -113,6 +121,14 @@ impl Written {
             from,
             to,
         })?;
+        Ok(())
+    }
+
+    /// Appends the record of a change of the chain.
+    fn relink(&mut self, by: u32, change: Change) -> Result<(), Fail>
+        requires { IsChangeBounded change }
+    {
+        append(&mut self.log, &LogRecord::Change(by, change))?;
         Ok(())
     }
 
@@ -223,6 +239,38 @@ fn change_of(tuple: usize, from: Option<u8>, to: Option<u8>) -> Option<Change>
             from: values_of(old),
             to: values_of(new),
         }),
+    }
+}
+
+/// The changes by which a tuple comes into the chain, right behind another one or first, and goes.
+fn connect(tuple: usize, left: Option<usize>) -> Change
+    ensures { IsChangeBounded result }
+{
+    Change::Connect {
+        link: LINK,
+        parent: None,
+        child: tid_of(tuple),
+        left: place_of(left),
+    }
+}
+
+fn disconnect(tuple: usize, left: Option<usize>) -> Change
+    ensures { IsChangeBounded result }
+{
+    Change::Disconnect {
+        link: LINK,
+        parent: None,
+        child: tid_of(tuple),
+        left: place_of(left),
+    }
+}
+
+fn place_of(tuple: Option<usize>) -> Option<Tid>
+    ensures { IfSome result HasSlot }
+{
+    match tuple {
+        Some(tuple) => Some(tid_of(tuple)),
+        None => None,
     }
 }
 

@@ -30,7 +30,13 @@ mod levels;
 #[cfg(test)]
 mod lines;
 #[cfg(test)]
+mod link_stops;
+#[cfg(test)]
+mod linking;
+#[cfg(test)]
 mod locking;
+#[cfg(test)]
+mod long_chain;
 #[cfg(test)]
 mod many;
 #[cfg(test)]
@@ -53,6 +59,8 @@ mod statuses;
 mod stops;
 #[cfg(test)]
 mod texts;
+#[cfg(test)]
+mod trials;
 #[cfg(test)]
 mod variables;
 #[cfg(test)]

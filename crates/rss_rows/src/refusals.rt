@@ -1,7 +1,7 @@
 // Devices that hold no store, and the places that are named.
 use crate::harness::{
-    ABSENT, PRESENT, PROBE, SMALL, UNDEFINED, empty_store, has_writes, store_with_image,
-    store_with_log, store_with_tuple,
+    ABSENT, PRESENT, PROBE, SMALL, UNDEFINED, empty_store, has_writes, store_with_chain,
+    store_with_image, store_with_log, store_with_tuple,
 };
 use rss_asserts::assert_same;
 use rss_base::{Page, PageKey, Place, Source, Space, Tid};
@@ -76,6 +76,8 @@ const NOT_CATALOG_6: Ending = Ending::Damaged(Place::Catalog(6), b"damaged catal
 const NOT_CATALOG_7: Ending = Ending::Damaged(Place::Catalog(7), b"damaged catalog 7\n");
 
 const NOT_CATALOG_9: Ending = Ending::Damaged(Place::Catalog(9), b"damaged catalog 9\n");
+
+const NOT_LINK_1: Ending = Ending::Damaged(Place::Link(1), b"damaged link 1\n");
 
 const NOT_HOME_0: Ending = Ending::Damaged(
     Place::Page(PageKey {
@@ -392,6 +394,44 @@ static IMAGE_SLOTS: [(u8, EntryBytes, Ending); 4] = [
 /// The bytes of an entry of a page.
 type EntryBytes = [u8; 8];
 
+/// How the home page begins, with the entry of its first tuple, and the page of the links, with the first
+/// of the chain.
+const HOME_0: &[u8] = &[
+    1, 1, 0, 0, 0, 0, 0, 0, 0, 0, 0, 0, 0, 0, 0, 0, 1, 0, 4, 16, 0, 22,
+];
+
+const LINK_L: &[u8] = &[
+    b'l', 0, 0, 0, 0, 0, 0, 0, 0, 0, 0, 0, 0, 0, 0, 0, 1, 0, 1, 0, 0, 0, 0, 0, 0, 0,
+];
+
+/// Bytes of the home page of a store at rest with a unary link, in whose chain 0.0 has the value 8 and
+/// 0.1 comes behind it: offset, the bits that are turned, and how the probe ends then. A body has the
+/// relation's number, a flag, the tuple before it, the one behind it, and the value.
+static CHAINED: [(usize, u8, Ending); 11] = [
+    (1040, 3, NOT_TUPLE),
+    (1041, 1, NOT_LINK_1),
+    (1041, 3, NOT_LINK_1),
+    (1042, 1, NOT_LINK_1),
+    (1053, 1, NOT_LINK_1),
+    (1053, 2, NOT_LINK_1),
+    (1061, 1, Ending::Opens(b"ok\nok 9\n")),
+    (1063, 1, NOT_LINK_1),
+    (1069, 1, NOT_LINK_1),
+    (1070, 255, NOT_LINK_1),
+    (1084, 1, OPENS),
+];
+
+/// The same of the page of the links: the first of the chain and the last one, the link's kind, and its
+/// relation.
+static LINKED: [(usize, u8, Ending); 6] = [
+    (25, 1, NOT_LINK_1),
+    (25, 128, NOT_CATALOG_9),
+    (31, 1, NOT_LINK_1),
+    (31, 2, NOT_LINK_1),
+    (16, 3, NOT_CATALOG_9),
+    (18, 3, NOT_CATALOG_9),
+];
+
 /// It is empty; it has the body of 9 bytes that stands first, or its first 8; or it leads to one of
 /// the first entries of an overflow page.
 const EMPTY: EntryBytes = [0; 8];
@@ -660,6 +700,33 @@ fn an_image_page_belongs_to_an_image(rt: HostRuntime) -> Result<(), Fail> {
     for (slot, entry, ending) in &IMAGE_SLOTS {
         let pages = mapped_in(rt.alloc(), store.as_slice(), *slot, entry)?;
         assert_ending(rt.alloc(), pages, ending, ("slot, entry", *slot, *entry))?;
+    }
+    Ok(())
+}
+
+/// The pages of a store with a chain, where bits of a byte are turned of the first that begins so.
+fn turned_where(
+    alloc: Global,
+    store: &[Page],
+    begin: &[u8],
+    (offset, bits): (usize, u8),
+) -> Result<Vec<Page>, Fail> {
+    let at = store.iter().position(|page| page.starts_with(begin));
+    turned_in(alloc, store, (at.ok_or("no such page")?, offset, bits))
+}
+
+#[test]
+fn a_chain_is_spelled_by_its_tuples(rt: HostRuntime) -> Result<(), Fail> {
+    let store = store_with_chain(rt.alloc())?;
+    for (offset, bits, ending) in &CHAINED {
+        let turned = (*offset, *bits);
+        let pages = turned_where(rt.alloc(), store.as_slice(), HOME_0, turned)?;
+        assert_ending(rt.alloc(), pages, ending, ("a body: byte, bits", turned))?;
+    }
+    for (offset, bits, ending) in &LINKED {
+        let turned = (*offset, *bits);
+        let pages = turned_where(rt.alloc(), store.as_slice(), LINK_L, turned)?;
+        assert_ending(rt.alloc(), pages, ending, ("the link: byte, bits", turned))?;
     }
     Ok(())
 }

@@ -123,8 +123,7 @@ static WORDS: [&[u8]; 73] = [
     b"next 1 0 1",
     b"close 1",
     b"close 1 0.0",
-    // Calls that aren't built.
-    b"open 1 link r",
+    b"open 1 link",
 ];
 
 /// Scripts over a relation of one TEXT, whose bytes between quotes are none that a field takes.

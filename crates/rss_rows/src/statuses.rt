@@ -82,7 +82,7 @@ static FAULTS: [Fault; 6] = [
 ];
 
 /// Words that are no command, after the program's own name.
-static WORDS: [&[&str]; 36] = [
+static WORDS: [&[&str]; 48] = [
     &[],
     &["run"],
     &["FILE"],
@@ -116,7 +116,19 @@ static WORDS: [&[&str]; 36] = [
     &["gen", "", "1"],
     &["gen", "18446744073709551616", "1"],
     &["gen", "--", "1"],
+    &["trial"],
+    &["trial", "FILE"],
+    &["trial", "FILE", "1"],
+    &["trial", "1", "1"],
+    &["trial", "FILE", "1", "1", "1"],
+    &["Trial", "FILE", "1", "1"],
+    &["trial", "FILE", "1", "0"],
+    &["trial", "FILE", "1", "100001"],
+    &["trial", "FILE", "01", "1"],
+    &["trial", "FILE", "1", "+1"],
+    &["trial", "FILE", "18446744073709551616", "1"],
     &["run", "-FILE"],
+    &["trial", "-FILE", "1", "1"],
     &["format", "-FILE", "64", "8"],
     &["--help"],
 ];

@@ -79,7 +79,7 @@ goes_nothing : (session : SessionView) → SessionGoesOn {T = ⊤} session sessi
 goes_nothing session = goes_opened {opened = session.opened} tt (λ t. omega arith)
 
 -- whatever came of it
-goes_anyhow : {T : Type 0} {old new : SessionView} {made : Result T PageFault} → SessionGoesOn old new made → SessionGoesOn {T = ⊤} old new (Ok tt)
+pub goes_anyhow : {T : Type 0} {old new : SessionView} {made : Result T PageFault} → SessionGoesOn old new made → SessionGoesOn {T = ⊤} old new (Ok tt)
 goes_anyhow on = goes_still tt on refl refl (λ t. omega arith)
 
 pub change_refused : {T : Type 0} {session : SessionView} {up : Type 0} {t : ℕ} {told_change : told.Change} {why : Refusal} (result : Result T CallError) → IsErrAnd result (λ e. e ≡ Refused why) → up

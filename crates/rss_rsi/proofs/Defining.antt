@@ -38,7 +38,7 @@ use Rattle.rss_session.specs.Admissions.{Says}
 use Rattle.rss_session.specs.Calls.{IsRedefined, RedefinesTables, Appends}
 use Rattle.rss_session.specs.Calls.{GoesOn as SessionGoesOn}
 use Rattle.rss_session.specs.Definitions.{Relists, Redefines, Defining}
-use Rattle.rss_session.specs.Definitions.Relists.{segment, relation, drop_segment, drop_relation}
+use Rattle.rss_session.specs.Definitions.Relists.{segment, relation, drop_segment, drop_relation, link, drop_link}
 use Rattle.rss_session.specs.Parts.{view as session_view}
 use Rattle.rss_session.specs.Sessions.{SessionView, CanSave, IsEarly}
 use Rattle.rss_session.specs.Sessions.{IsReady as IsSessionReady}
@@ -56,6 +56,8 @@ no_asks before now same (segment name number fresh least) = omega (arith, same)
 no_asks before now same (relation name in_segment fields at number within fresh least) = omega (arith, same)
 no_asks before now same (drop_segment name number at none) = omega (arith, same)
 no_asks before now same (drop_relation number entry at unused none) = omega (arith, same)
+no_asks before now same (link name parent child number entry at fresh least empty) = omega (arith, same)
+no_asks before now same (drop_link number entry at empty) = omega (arith, same)
 
 -- and of its writes no bound is claimed
 any_writes : {old new : Listing} {call : Call} (before now : ℕ) → Relists old call new → RisesAtMost (most_writes call) before now
@@ -63,6 +65,8 @@ any_writes before now (segment name number fresh least) = tt
 any_writes before now (relation name in_segment fields at number within fresh least) = tt
 any_writes before now (drop_segment name number at none) = tt
 any_writes before now (drop_relation number entry at unused none) = tt
+any_writes before now (link name parent child number entry at fresh least empty) = tt
+any_writes before now (drop_link number entry at empty) = tt
 
 -- what goes on doesn't hang on the catalog
 but_listed : {T : Type 0} {before new : SessionView} {result : Result T PageFault} (catalog : CatalogView) → SessionGoesOn (with_catalog catalog before) new result → SessionGoesOn before new result

@@ -26,6 +26,7 @@ use Rattle.rss_model.specs.Items.{Values}
 use Rattle.rss_model.specs.Machine.{State, now}
 use Rattle.rss_model.specs.Needs.{image_scan_needs, relation_needs}
 use Rattle.rss_model.specs.ReplyText.{IsShort}
+use Rattle.rss_model.specs.Refusals.{unless_in_chain}
 use Rattle.rss_model.specs.Scans.{RelationPath, ImagePath, LinkPath, list_of_image, next_along, next_of_scan, path_relation}
 use Rattle.rss_model.specs.Scans.{Path as MachinePath, Scan as MachineScan}
 use Rattle.rss_model.specs.Store.{IsListedImage, image_definition}
@@ -203,11 +204,6 @@ image_lists {parts = parts} {number = number} {listed = listed} is lists image n
 pub costs_nothing : (old new : RssParts) (t scan : ℕ) → new.session.store.pages.asks ≡ old.session.store.pages.asks → new.session.store.pages.writes ≡ old.session.store.pages.writes → CostsLevels old new t scan
 costs_nothing old new t scan asks writes cursor image start most there along levels = (omega (arith, asks), omega (arith, writes))
 
--- a scan of a relation is none of an image
-pub costs_relation : (old new : RssParts) (t scan : ℕ) {cursor : Cursor} {relation : Name} → cursor_of old.scans t scan ≡ Some cursor → cursor.path ≡ Relation relation → CostsLevels old new t scan
-costs_relation old new t scan {relation = relation} has at cursor image start most there along levels =
-    let same : Relation relation ≡ Image image start = sym at ∙ ap (λ (c : Cursor). c.path) (same_Some _ _ (sym has ∙ there)) ∙ along in absurd (cc (same))
-
 -- a page a level and one more for the entry, and two for its tuple
 pub costs_levels : (old new : RssParts) (t scan number : ℕ) {listed : ImageEntry} → GoesAlongImage old t scan number → image_at old.session.store.catalog.listing number ≡ Some listed
     → new.session.store.pages.asks ≤ old.session.store.pages.asks + (listed.levels + 1) + 2 → new.session.store.pages.writes ≤ old.session.store.pages.writes + run_pages * (listed.levels + 1) + run_pages * 2 → CostsLevels old new t scan
@@ -228,14 +224,20 @@ module _ {parts : RssParts} {t number : ℕ} {cursor : Cursor} (has : cursor_of 
   next_is : {state : State} {scan : MachineScan} (in_it : IsScanIn parts t number state scan) → next_of_scan (now state) scan ≡ next_entry (its_way in_it).from scan.last (list_of_image (now state) image)
   next_is {state = state} {scan = scan} in_it = let way = its_way in_it in ap (λ (path : MachinePath). next_along (now state) path scan.last) way.along
 
+  -- it loses no place
+  stays_in : {state : State} {scan : MachineScan} → IsScanIn parts t number state scan → unless_in_chain state scan.path scan.last ≡ None
+  stays_in {state = state} {scan = scan} in_it = let way = its_way in_it in ap (λ (path : MachinePath). unless_in_chain state path scan.last) way.along
+
   -- an image that isn't listed has no entries
   pub none_listed : IsUnlisted ImageKind parts.session.store.catalog.listing image → FindsNext parts t number None
   none_listed unlisted state scan in_it =
       let none : map.get state.base.definitions.images image ≡ None = none_of (map.get state.base.definitions.images image) (λ there.
-      let listed = in_it.is_in.shows.store.spells.defines.paths.only_images image there in unlisted listed.0 listed.1) in
-      next_is in_it
-      ∙ ap (λ (o : Option ImageDef). next_entry (its_way in_it).from scan.last (unwrap_or (option_map (image_list (now state)) o) [])) none
-      ∙ none_in (its_way in_it).from scan.last
+      let listed = in_it.is_in.shows.store.spells.defines.paths.only_images image there in unlisted listed.0 listed.1) in (
+        stays_in in_it,
+        next_is in_it
+            ∙ ap (λ (o : Option ImageDef). next_entry (its_way in_it).from scan.last (unwrap_or (option_map (image_list (now state)) o) [])) none
+            ∙ none_in (its_way in_it).from scan.last,
+      )
 
   module _ (place : ℕ) {listed : ImageEntry} {relation : RelationEntry} (is : IsListedImage parts.session.store.catalog.listing place listed relation) (named : listed.name ≡ image) (ready : IsReady parts.session) where
     module _ {state : State} {scan : MachineScan} (in_it : IsScanIn parts t number state scan) where
@@ -296,6 +298,7 @@ module _ {parts : RssParts} {t number : ℕ} {cursor : Cursor} (has : cursor_of 
         gives_spelled values there =
             let way = its_way in_it in record {
               given = got.0.key;
+              stays = stays_in in_it;
               next = got.1 ∙ ap (λ (i : Tid). Some (entry got.0.key i)) tid_same;
               spelled = subst (λ (path : MachinePath). spelling state.base.definitions path (Some (entry got.0.key tid)) ≡ record (spelling state.base.definitions path scan.last) { last = Some (key, tid) }) (sym way.along)
                   (λ i. record { path = Image image (start_spelled (kinds_of state.base.definitions image) way.from); last = Some (key_same i, tid) });
@@ -316,8 +319,8 @@ module _ {parts : RssParts} {t number : ℕ} {cursor : Cursor} (has : cursor_of 
           let of = tuple_there in_it finds in
           none-some _ (sym ((found (looks.goes.told.0 in_it.told)).none none state relation in_it.is_in.kept (looks.shows in_it.told state in_it.is_in.shows) (still_listed is looks)) ∙ of.1)
 
-      module _ (yes : there ≡ true) (read : Option (List Value)) (exact : (values : List Value) → IsBodyOf listed.relation (kinds relation.fields) values body → read ≡ Some values) where
-        its_tuple : (state : State) (scan : MachineScan) → IsScanIn parts t number state scan → HasTuple state listed.relation relation tid body
+      module _ (yes : there ≡ true) (read : Option (List Value)) (exact : (values : List Value) → IsBodyOf mid.store.catalog.listing listed.relation (kinds relation.fields) values body → read ≡ Some values) where
+        its_tuple : (state : State) (scan : MachineScan) → IsScanIn parts t number state scan → HasTuple mid.store.catalog.listing state listed.relation relation tid body
         its_tuple state scan in_it = (found (looks.goes.told.0 in_it.told)).some yes state relation in_it.is_in.kept (looks.shows in_it.told state in_it.is_in.shows) (still_listed is looks)
 
         pub never_unread : read ≡ None → (state : State) (scan : MachineScan) → IsScanIn parts t number state scan → ⊥
@@ -342,9 +345,11 @@ pub none_found : {parts : RssParts} {t number : ℕ} {cursor : Cursor} (has : cu
     → FindsNextEntry parts.session place start cursor.last None → FindsNext parts t number None
 none_found {parts = parts} has image start at place named_so ready finds state scan in_it =
     let here = image_entry parts.session.store.catalog.listing image place named_so in
-    let fits = in_it.is_in.shows.store.spells.listed.paths.images place here.entry here.at in
-    got_none (kept_pair here.entry fits.relation) (next_of_scan (now state) scan)
-    (found_next has image start at place (record { at = here.at; within = fits.listed }) here.named ready in_it finds)
+    let fits = in_it.is_in.shows.store.spells.listed.paths.images place here.entry here.at in (
+      stays_in has image start at in_it,
+      got_none (kept_pair here.entry fits.relation) (next_of_scan (now state) scan)
+          (found_next has image start at place (record { at = here.at; within = fits.listed }) here.named ready in_it finds),
+    )
 
 -- ---- how the scan of a cursor goes
 

@@ -4,9 +4,9 @@ use Rattle.std.specs.Prelude.{Some, None, is_some, option_map, Ok, Err}
 use Rattle.std.proofs.lemmas.Bool.{false_from_ne_true}
 use Rattle.std.proofs.lemmas.Option.{same_Some}
 use Rattle.rss_base.specs.DiskRule.{IsTold}
-use Rattle.rss_base.specs.Listings.{relation_at, IsNumberOf}
+use Rattle.rss_base.specs.Listings.{ListingFits, relation_at, IsNumberOf}
 use Rattle.rss_base.specs.LogRecords.{IsShort}
-use Rattle.rss_base.specs.TupleTypes.{kinds, Spells}
+use Rattle.rss_base.specs.TupleTypes.{kinds, tuple_bytes, Spells}
 use Rattle.rss_base.specs.declared.answer.CallError.{CallError}
 use Rattle.rss_base.specs.declared.answer.CallError.TheVariants.{NoMemory}
 use Rattle.rss_base.specs.declared.answer.Reply.TheVariants.{Tid as Identifier}
@@ -35,7 +35,6 @@ use Rattle.rss_model.specs.Ruled.{ruled}
 use Rattle.rss_model.specs.Rules.{if_no_room}
 use Rattle.rss_model.specs.Steps.{Step, first_of, tests, misfit_of, unless_open, unless_defined, value_admission, if_used_up, if_full, refusal, insertion, locked, holding, IsFree}
 use Rattle.rss_model.specs.Steps.StepBy.{inserts}
-use Rattle.rss_model.specs.Store.{plain_body}
 use Rattle.rss_model.specs.Tables.{fields_of}
 use Rattle.rss_model.proofs.Codes.{split_alike}
 use Rattle.rss_model.proofs.Frees.{some_free_is, free_there}
@@ -49,7 +48,7 @@ use Rattle.rss_session.specs.Looks.{LooksOn}
 use Rattle.rss_session.specs.Sessions.{SessionView}
 use Rattle.rss_rsi.specs.Locking.{putting, Lists, IsClaimed, ClaimEnds}
 use Rattle.rss_rsi.specs.Placing.{IsPlaceFor, IsRelationIn, MayCost, PlacesTuple}
-use Rattle.rss_rsi.specs.Views.{RssParts, IsIn, SameHeld, MayStandAt, engine_view}
+use Rattle.rss_rsi.specs.Views.{RssParts, IsIn, SameHeld, MayStandAt, body_length, engine_view}
 use Rattle.rss_rsi.proofs.Changes.{IsLast, EndsByChange}
 use Rattle.rss_rsi.proofs.Claims.{first_bar_behind, granted_behind, none_bars, claim_fails}
 use Rattle.rss_rsi.proofs.Telling.{tells_insert, may_make}
@@ -192,14 +191,14 @@ module _ (parts : RssParts) {t : ℕ} {relation : Name} {values : List Value} {n
       )
 
       -- the identifier is one of those that the pages have for the tuple
-      pub gets_place : length_of ≡ length (plain_body number values) → IsTold parts.session.store.pages.disk → (state : State) → IsIn parts state → (barred : List Tid) → AreBarred state t relation barred
+      pub gets_place : (ListingFits parts.session.store.catalog.listing → length_of ≡ body_length parts.session.store.catalog.listing number (length (tuple_bytes values))) → IsTold parts.session.store.pages.disk → (state : State) → IsIn parts state → (barred : List Tid) → AreBarred state t relation barred
           → MayStandAt parts.session.store.pages parts.session.store.catalog.listing relation values barred tid
       gets_place same told state is_in barred exact = record {
         number = number;
         entry = entry;
         at = admitted.at;
         named = named;
-        chosen = subst (λ (k : ℕ). IsChosen parts.session.store.pages entry.segment k barred tid) same
+        chosen = subst (λ (k : ℕ). IsChosen parts.session.store.pages entry.segment k barred tid) (same is_in.shows.store.spells.listed)
             (place.chosen entry state (its_relation told is_in) barred (subst (λ (name : Name). AreBarred state t name barred) (sym named) exact));
       }
 

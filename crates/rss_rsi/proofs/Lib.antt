@@ -1,6 +1,5 @@
 pub mod Ways
 pub mod Claims
-pub mod NoLinks
 pub mod Defining
 pub mod Imaging
 pub mod Imaged
@@ -29,3 +28,14 @@ mod Opened
 pub mod Spelled
 pub mod Long
 pub mod ImageScans
+pub mod LinkTests
+pub mod LinkLines
+pub mod Chained
+pub mod Places
+pub mod LinkEnds
+pub mod LinkNeeds
+pub mod Connects
+pub mod Follows
+pub mod Members
+pub mod LinkParents
+pub mod LinkOpens

@@ -5,7 +5,7 @@ use Rattle.std.proofs.lemmas.Option.{none-some, same_Some}
 use Rattle.std.proofs.lemmas.Result.{err_from_is_err_and}
 use Rattle.rss_base.specs.Answers.{page_error}
 use Rattle.rss_base.specs.DiskRule.{IsTold}
-use Rattle.rss_base.specs.Listings.{relation_at, IsNumberOf}
+use Rattle.rss_base.specs.Listings.{Listing, relation_at, IsNumberOf}
 use Rattle.rss_base.specs.LogRecords.{HasSlot}
 use Rattle.rss_base.specs.Runs.{run_pages}
 use Rattle.rss_base.specs.Steps.{PagesView}
@@ -15,7 +15,6 @@ use Rattle.rss_base.specs.declared.answer.CallError.TheVariants.{Refused, Damage
 use Rattle.rss_base.specs.declared.answer.Reply.{Reply}
 use Rattle.rss_base.specs.declared.call.Call.{Call}
 use Rattle.rss_base.specs.declared.fault.PageFault.{PageFault}
-use Rattle.rss_base.specs.declared.field.FieldDef.{FieldDef}
 use Rattle.rss_base.specs.declared.item.Item.TheVariants.{Tuple as TupleItem}
 use Rattle.rss_base.specs.declared.name.Name.{Name}
 use Rattle.rss_base.specs.declared.need.Need.{Need}
@@ -188,7 +187,7 @@ module _ (parts : RssParts) (relation : Name) (number : ℕ) (known : IsNumberOf
       subst (λ (name : Name). content (now state).contents (TupleItem name tid) ≡ None) named
       ((finds told).none is state entry is_in.kept is_in.shows (record { at = at; within = refl }))
 
-  module _ (found : Option (List Value)) (exact : (values : List Value) → IsBodyOf number (kinds entry.fields) values body → found ≡ Some values) (is : there ≡ true) (told : IsTold parts.session.store.pages.disk) (state : State) (is_in : IsIn parts state) where
+  module _ (found : Option (List Value)) (exact : (values : List Value) → IsBodyOf parts.session.store.catalog.listing number (kinds entry.fields) values body → found ≡ Some values) (is : there ≡ true) (told : IsTold parts.session.store.pages.disk) (state : State) (is_in : IsIn parts state) where
     -- it has the values that its body is of
     pub some_there : (values : List Value) → found ≡ Some values → HasValues state relation tid values
     some_there values so =
@@ -198,25 +197,29 @@ module _ (parts : RssParts) (relation : Name) (number : ℕ) (known : IsNumberOf
 
 -- what is there has values, which its body spells
 pub none_spelled : (parts : RssParts) {number : ℕ} {entry : RelationEntry} → relation_at parts.session.store.catalog.listing number ≡ Some entry → {tid : Tid} {there : Bool} {body : List ℕ} → (IsTold parts.session.store.pages.disk → FindsTuple parts.session entry.segment number tid there body)
-    → (found : Option (List Value)) → ((values : List Value) → IsBodyOf number (kinds entry.fields) values body → found ≡ Some values) → there ≡ true → IsTold parts.session.store.pages.disk → (state : State) → IsIn parts state → found ≡ None → ⊥
+    → (found : Option (List Value)) → ((values : List Value) → IsBodyOf parts.session.store.catalog.listing number (kinds entry.fields) values body → found ≡ Some values) → there ≡ true → IsTold parts.session.store.pages.disk → (state : State) → IsIn parts state → found ≡ None → ⊥
 none_spelled parts {entry = entry} at finds found exact is told state is_in none =
     let has = (finds told).some is state entry is_in.kept is_in.shows (record { at = at; within = refl }) in
     none-some has.values (sym none ∙ exact has.values has.spelled)
 
+-- the relation of a number is listed still
+pub still_at : {old new : CatalogView} (number : ℕ) {entry : RelationEntry} → new ≡ old → relation_at old.listing number ≡ Some entry → relation_at new.listing number ≡ Some entry
+still_at number catalog at = ap (λ (c : CatalogView). relation_at c.listing number) catalog ∙ at
+
 -- the same body of a relation that is listed still, as slices give it
-pub body_as : {old new : CatalogView} {number : ℕ} {entry same : RelationEntry} → new ≡ old → relation_at old.listing number ≡ Some entry → relation_at new.listing number ≡ Some same
-    → {fields : List FieldDef} {body bytes : List ℕ} → fields ≡ same.fields → bytes ≡ body → (values : List Value) → IsBodyOf number (kinds entry.fields) values body → IsBodyOf number (kinds fields) values bytes
-body_as {number = number} {entry = entry} {same = same} catalog at at_new {fields = fields} {body = body} {bytes = bytes} is_fields is_bytes values spelled =
-    let one : entry ≡ same = same_Some _ _ (sym at ∙ ap (λ (c : CatalogView). relation_at c.listing number) (sym catalog) ∙ at_new) in
-    subst (λ (b : List ℕ). IsBodyOf number (kinds fields) values b) (sym is_bytes)
-    (subst (λ (f : List FieldDef). IsBodyOf number (kinds f) values body) (ap (λ (r : RelationEntry). r.fields) one ∙ sym is_fields) spelled)
+pub body_as : {old new : CatalogView} {number : ℕ} {entry : RelationEntry} {body bytes : List ℕ} {read : Option (List Value)} → new ≡ old → relation_at old.listing number ≡ Some entry → bytes ≡ body
+    → ((relation : RelationEntry) → relation_at new.listing number ≡ Some relation → (values : List Value) → IsBodyOf new.listing number (kinds relation.fields) values bytes → read ≡ Some values)
+    → (values : List Value) → IsBodyOf old.listing number (kinds entry.fields) values body → read ≡ Some values
+body_as {old = old} {number = number} {entry = entry} {bytes = bytes} catalog at is_bytes exact values spelled =
+    exact entry (still_at number catalog at) values
+    (subst (λ (c : CatalogView). IsBodyOf c.listing number (kinds entry.fields) values bytes) (sym catalog)
+    (subst (λ (b : List ℕ). IsBodyOf old.listing number (kinds entry.fields) values b) (sym is_bytes) spelled))
 
 -- which fits its fields
-pub body_fits : {old new : CatalogView} {number : ℕ} {same : RelationEntry} → new ≡ old → relation_at new.listing number ≡ Some same
-    → {fields : List FieldDef} → fields ≡ same.fields → {values : List Value} {bytes : List ℕ} → IsBodyOf number (kinds fields) values bytes → (entry : RelationEntry) → relation_at old.listing number ≡ Some entry → misfit (kinds entry.fields) values ≡ None
-body_fits {number = number} {same = same} catalog at_new {fields = fields} is_fields {values = values} spelled entry at =
-    let one : entry ≡ same = same_Some _ _ (sym at ∙ ap (λ (c : CatalogView). relation_at c.listing number) (sym catalog) ∙ at_new) in
-    ap (λ (f : List FieldDef). misfit (kinds f) values) (ap (λ (r : RelationEntry). r.fields) one ∙ sym is_fields) ∙ spelled.spelled.fit
+pub body_fits : (listing : Listing) {listing_now : Listing} {number : ℕ} {known : RelationEntry} → relation_at listing number ≡ Some known → {values : List Value} {bytes : List ℕ} → IsBodyOf listing_now number (kinds known.fields) values bytes
+    → (entry : RelationEntry) → relation_at listing number ≡ Some entry → misfit (kinds entry.fields) values ≡ None
+body_fits listing at {values = values} spelled entry there =
+    ap (λ (r : RelationEntry). misfit (kinds r.fields) values) (same_Some _ _ (sym there ∙ at)) ∙ spelled.spelled.fit
 
 -- ---- ends
 

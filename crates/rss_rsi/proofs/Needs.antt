@@ -2,7 +2,7 @@
 use Rattle.std.proofs.Common.{◌≡◌, ℕ, List, [], ◌∷◌, ◌++◌, sym, ◌∙◌, ap}
 use Rattle.std.specs.Prelude.{Option, Some, None}
 use Rattle.rss_base.specs.Listings.{IsNumberOf, relation_at, segment_at}
-use Rattle.rss_base.specs.declared.item.Item.TheVariants.{Segment, Relation}
+use Rattle.rss_base.specs.declared.item.Item.TheVariants.{Relation}
 use Rattle.rss_base.specs.declared.name.Name.{Name}
 use Rattle.rss_base.specs.declared.need.Mode.{Mode}
 use Rattle.rss_base.specs.declared.need.Need.{Need}
@@ -34,19 +34,5 @@ relation_lists parts relation number entry coarse mode known at told state is_in
 
 -- ---- as they are pushed, one by one
 
--- the lock of the segment stands first, where it has a name
-pub segment_pushed : (segments : Option Name) (coarse : Mode) {segment : Name} {before needs : List Need} {one : Need} → segments ≡ Some segment → before ≡ [] → needs ≡ before ++ one ∷ [] → one ≡ need (Segment segment) coarse → needs ≡ segment_needs segments coarse
-segment_pushed segments coarse {one = one} some none is one_is =
-    is ∙ ap (λ (l : List Need). l ++ one ∷ []) none ∙ ap (λ (n : Need). n ∷ []) one_is ∙ ap (λ (s : Option Name). segment_needs s coarse) (sym some)
-
 pub no_segment : (segments : Option Name) (coarse : Mode) {needs : List Need} → segments ≡ None → needs ≡ [] → needs ≡ segment_needs segments coarse
 no_segment segments coarse none is = is ∙ ap (λ (s : Option Name). segment_needs s coarse) (sym none)
-
--- and that of the relation behind it
-pub relation_pushed : (parts : RssParts) (relation : Name) (number : ℕ) (entry : RelationEntry) (coarse mode : Mode) → IsNumberOf RelationKind parts.session.store.catalog.listing relation number → relation_at parts.session.store.catalog.listing number ≡ Some entry
-    → (segments : Option Name) → segments ≡ segment_at parts.session.store.catalog.listing entry.segment → (before needs : List Need) (one : Need) → before ≡ segment_needs segments coarse → needs ≡ before ++ one ∷ [] → one ≡ need (Relation relation) mode
-    → Lists parts (λ tables. relation_needs tables relation coarse mode) needs
-relation_pushed parts relation number entry coarse mode known at segments named before needs one first is one_is told state is_in =
-    relation_lists parts relation number entry coarse mode known at told state is_in
-    ∙ (λ i. segment_needs (sym named i) coarse ++ need (Relation relation) mode ∷ [])
-    ∙ sym (is ∙ (λ i. first i ++ one_is i ∷ []))

@@ -1,15 +1,15 @@
 -- The lines of refusals that tell of an item which another transaction holds are short, whatever names they have.
 use Rattle.std.proofs.Common.{◌≡◌, ℕ, suc, ◌+◌, ◌-◌, ◌^◌, ◌<◌, ◌≤◌, List, [], ◌∷◌, ◌++◌, length, take, refl, sym, ◌∙◌, ap, subst, arith, append_assoc, length-append, length-take}
-use Rattle.std.specs.Prelude.{Option, Some, None, All, Err, codes, decimal, slice_get}
+use Rattle.std.specs.Prelude.{Option, Some, None, All, IfSome, Err, codes, decimal, slice_get}
 use Rattle.std.specs.List.{cons_option}
 use Rattle.std.proofs.lemmas.Fmt.{length-decimal-le}
-use Rattle.std.proofs.lemmas.List.Elements.{All-append, All-nil, All-push}
+use Rattle.std.proofs.lemmas.List.Elements.{All-append, All-push}
 use Rattle.std.proofs.lemmas.List.Sums.{sum_by-append, sum_by-cons}
 use Rattle.rss_base.specs.Listings.{field_numbers}
 use Rattle.rss_base.specs.TupleTypes.{chosen, kinds, misfit, width, field_width, key_bytes, key_part_width, key_width, tuple_bytes, IsStorable}
 use Rattle.rss_base.specs.declared.image.ImageEntry.{ImageEntry}
 use Rattle.rss_base.specs.declared.item.Item.{Item}
-use Rattle.rss_base.specs.declared.item.Item.TheVariants.{Segment, Relation, Tuple, Key}
+use Rattle.rss_base.specs.declared.item.Item.TheVariants.{Segment, Relation, Tuple, Chain, Key}
 use Rattle.rss_base.specs.declared.name.Name.{Name}
 use Rattle.rss_base.specs.declared.need.Mode.{Mode}
 use Rattle.rss_base.specs.declared.need.Need.{Need}
@@ -18,6 +18,7 @@ use Rattle.rss_base.specs.declared.tid.Tid.{Tid}
 use Rattle.rss_base.specs.declared.value.FieldKind.{FieldKind}
 use Rattle.rss_base.specs.declared.value.FieldKind.TheVariants.{Int as IntField, Text as TextField}
 use Rattle.rss_base.specs.declared.value.Value.{Value}
+use Rattle.rss_node.specs.Pairs.{IsSpelledTid}
 use Rattle.rss_value.proofs.Choosing.{key_made}
 use Rattle.rss_value.proofs.Fitting.{AllFit, fitting, no_misfit}
 use Rattle.rss_model.specs.Needs.{need}
@@ -41,6 +42,11 @@ relation_sayable relation long = busy_short (Relation relation) (omega (arith, n
 pub tuple_sayable : (relation : Name) (tid : Tid) → length relation.bytes ≡ 16 → tid.page < 2 ^ 32 → tid.slot < 2 ^ 32 → IsSayable (Tuple relation tid)
 tuple_sayable relation tid long page slot =
     busy_short (Tuple relation tid) (omega (arith, name_short relation long, tid_short tid page slot, length-append (name_text relation ++ codes " ") (tid_text tid), length-append (name_text relation) (codes " ")))
+
+pub chain_sayable : (link : Name) (parent : Option Tid) → length link.bytes ≡ 16 → IfSome parent IsSpelledTid → IsSayable (Chain link parent)
+chain_sayable link None long sized = busy_short (Chain link None) (omega (arith, name_short link long, length-append (name_text link) (codes " none")))
+chain_sayable link (Some parent) long sized =
+    busy_short (Chain link (Some parent)) (omega (arith, name_short link long, tid_short parent (omega (arith, sized.page)) (omega (arith, sized.slot)), length-append (name_text link ++ codes " ") (tid_text parent), length-append (name_text link) (codes " ")))
 
 -- ---- keys
 
@@ -86,9 +92,6 @@ key_sayable image values has long =
     busy_short (Key image.name key) (omega (arith, name_short image.name long, values_short (chosen numbers (kinds has.fields)) key made.fit made.storable narrow, length-append (name_text image.name) (values_text key)))
 
 -- ---- lists
-
-pub none_sayable : AreSayable []
-none_sayable = All-nil (λ (n : Need). IsSayable n.item)
 
 pub more_sayable : (needs now : List Need) (item : Item) (mode : Mode) → now ≡ needs ++ need item mode ∷ [] → AreSayable needs → IsSayable item → AreSayable now
 more_sayable needs now item mode is all one = subst AreSayable (sym is) (All-push (λ (n : Need). IsSayable n.item) needs (need item mode) all one)

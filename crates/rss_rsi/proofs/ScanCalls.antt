@@ -50,14 +50,14 @@ use Rattle.rss_session.proofs.First.{first_passes, first_stops}
 use Rattle.rss_rsi.specs.Locking.{Lists, IsClaimed, ClaimEnds}
 use Rattle.rss_rsi.specs.Placing.{MayCost}
 use Rattle.rss_rsi.specs.Scanning.{FindsNext, FindsNextRow, IsScanIn}
-use Rattle.rss_rsi.specs.Views.{RssParts, SameHeld, IsIn, AreScans, AreLong, HasKeys, spelling, engine_view}
+use Rattle.rss_rsi.specs.Views.{RssParts, SameHeld, IsIn, AreScans, HasKeys, spelling, engine_view}
 use Rattle.rss_rsi.proofs.Claims.{bars_as, free_as, grants_as, claim_fails}
 use Rattle.rss_rsi.proofs.LockCalls.{store_same, unless_keeps}
 use Rattle.rss_rsi.proofs.Looks.{goes_costly, passed_call}
-use Rattle.rss_rsi.proofs.Scans.{has_scan, none_lost, not_scanned, scans_full, scans_left, spelled_in, unused}
+use Rattle.rss_rsi.proofs.Scans.{has_scan, not_scanned, scans_full, scans_left, unused}
 use Rattle.rss_rsi.proofs.Spelled.{added_scans, given_scans, removed_scans, still_scans}
 use Rattle.rss_rsi.proofs.TransactionSteps.{number_line}
-use Rattle.rss_rsi.proofs.TupleTests.{admission_keeps}
+use Rattle.rss_rsi.proofs.TupleTests.{admission_keeps, last_test}
 use Rattle.rss_rsi.proofs.Ways.{answers, goes_nowhere, keeps_same, left_bare, left_same, leads_by, refused_alike, refused_early, shows_locked, shows_scanned}
 
 -- ---- the tests
@@ -69,19 +69,18 @@ module _ (state : State) (t number : ℕ) (opened : unless_open state t ≡ None
   scan_passes : (scan : MachineScan) → scan_of state.scans t number ≡ Some scan → first_of (unless_open state t ∷ unless_scan state t number ∷ rest) ≡ first_of rest
   scan_passes scan there = goes_on _ opened ∙ goes_on rest (passes_unless (NoSuch ScanKind) (ap is_some there))
 
--- a scan that may go on isn't lost
-next_passes : {parts : RssParts} {t number : ℕ} {state : State} {scan : MachineScan} {cursor : Cursor} → unless_open state t ≡ None → IsScanIn parts t number state scan → cursor_of parts.scans t number ≡ Some cursor → AreLong parts.session.store.catalog.listing cursor.path cursor.last → refusal state (Next t number) ≡ None
-next_passes {parts = parts} {t = t} {number = number} {state = state} {scan = scan} opened in_it has long =
+-- what it gave last may be gone from its chain
+pub next_comes : {parts : RssParts} {t number : ℕ} {state : State} {scan : MachineScan} → unless_open state t ≡ None → IsScanIn parts t number state scan → refusal state (Next t number) ≡ unless_in_chain state scan.path scan.last
+next_comes {t = t} {number = number} {state = state} {scan = scan} opened in_it =
     scan_passes state t number opened (unless_lost state t number ∷ []) scan in_it.there
-    ∙ goes_on [] (
-    ap (option_and_then (λ (s : MachineScan). unless_in_chain state s.path s.last)) in_it.there
-    ∙ none_lost state.base.definitions parts.session.store.catalog.listing state scan.path scan.last (spelled_in in_it has) long)
+    ∙ last_test (unless_lost state t number)
+    ∙ ap (option_and_then (λ (s : MachineScan). unless_in_chain state s.path s.last)) in_it.there
 
 pub next_may : (t number : ℕ) → MayCost (Next t number)
 next_may t number = record { stop = record { names = tt; granule = tt; memory = refl }; asks = refl; writes = refl }
 
 -- what is answered by a number has no place
-number_placed : (view : EngineView) (state : State) (call : Call) (number : ℕ) → GetsPlace view state call (Ok (Number number))
+pub number_placed : (view : EngineView) (state : State) (call : Call) (number : ℕ) → GetsPlace view state call (Ok (Number number))
 number_placed view state (Insert t relation values) number = tt
 number_placed view state call number = tt
 
@@ -164,7 +163,7 @@ image_opening t image from = record {
     unless_image state = refused_unless (is_some (image_of state image)) (NoSuch ImageKind)
 
 -- another transaction holds what it needs, or none does
-busy_is : {t : ℕ} (call : Call) → caller call ≡ Some t → (state : State) (bar : Option Bar) → first_bar state.locks t (needs (now state) call) ≡ bar → if_busy state call ≡ option_map busy bar
+pub busy_is : {t : ℕ} (call : Call) → caller call ≡ Some t → (state : State) (bar : Option Bar) → first_bar state.locks t (needs (now state) call) ≡ bar → if_busy state call ≡ option_map busy bar
 busy_is call by state bar is = ap (option_and_then (λ u. if_busy_for state u call)) by ∙ ap (option_map busy) is
 
 module _ {parts : RssParts} {t : ℕ} {front : State → Option Refusal} {along : MachinePath} {call : Call} (opening : IsOpening t front along call) {n m : ℕ} {up up_now : Type 0} (was_up : up) (is_up : up_now) (calls : m ≤ n + 1) where
@@ -240,14 +239,14 @@ module _ {parts : RssParts} (t number : ℕ) (opened : Says parts.session (λ st
 
     -- ---- it goes on, and pages were looked at
 
-    module _ (long : AreLong parts.session.store.catalog.listing cursor.path cursor.last) {T : Type 0} {found : T} {new : RssParts} (looks : LooksOn parts.session new.session (Ok found)) (locks : new.locks.locks ≡ parts.locks.locks) where
+    module _ {T : Type 0} {found : T} {new : RssParts} (looks : LooksOn parts.session new.session (Ok found)) (locks : new.locks.locks ≡ parts.locks.locks) where
       -- nothing comes next
       pub next_stops : FindsNext parts t number None → new.scans ≡ parts.scans → IsCallOf (engine_view parts n up) (engine_view new m up_now) (Next t number) (Ok End)
       next_stops none scans = comes_to was_up (goes_costly parts new looks calls (next_may t number)) (answers is_up (omega arith) (λ told state is_in. tt) (λ told state is_in.
           let of = has_scan is_in t number cursor has in
           let in_it : IsScanIn parts t number state of.scan = record { told = told; is_in = is_in; there = of.there } in
           leads_by state looks.moments told is_in
-          (stops t number of.scan (next_passes (opened told state is_in.shows) in_it has long) of.there (none state of.scan in_it))
+          (stops t number of.scan (next_comes (opened told state is_in.shows) in_it ∙ (none state of.scan in_it).0) of.there (none state of.scan in_it).1)
           (looks.shows told state is_in.shows) (is_in.locked ∙ sym locks) (still_scans scans refl is_in.scanned)))
 
       -- or a tuple does
@@ -260,7 +259,7 @@ module _ {parts : RssParts} (t number : ℕ) (opened : Says parts.session (λ st
           let next = entry its.given tid in
           let was = is_in.scanned.spelled number ∙ ap (option_map (spelled (spelling state.base.definitions))) (its_scan state.scans t number of.scan of.there).0 in
           leads_by (with_scan number (with_given of.scan next) state) looks.moments told is_in
-          (gives t number of.scan next values (next_passes (opened told state is_in.shows) in_it has long) of.there (record { next = its.next; relation = its.relation; along = its.along; has = its.has }))
+          (gives t number of.scan next values (next_comes (opened told state is_in.shows) in_it ∙ its.stays) of.there (record { next = its.next; relation = its.relation; along = its.along; has = its.has }))
           (shows_scanned _ (looks.shows told state is_in.shows)) (is_in.locked ∙ sym locks)
           (subst (AreScans state.base.definitions (map.insert state.scans number (with_given of.scan next))) (sym (gave (spelled (spelling state.base.definitions) of.scan) was))
           (given_scans number of.scan next key tid is_in.scanned its.spelled its.keys))))

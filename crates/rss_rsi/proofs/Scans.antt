@@ -59,15 +59,15 @@ module _ (parts : RssParts) (number : ℕ) {known : RelationEntry} (at : relatio
   pub none_behind : (after : Option Tid) (body : List ℕ) → (IsTold parts.session.store.pages.disk → FindsNextTuple parts.session known.segment number after None body) → FindsBehind parts number after None
   none_behind after body finds relation state in_it = (finds in_it.told state relation in_it.is_in.kept in_it.is_in.shows (in_segment in_it)).0
 
-  module _ (after found : Option Tid) (body : List ℕ) (finds : IsTold parts.session.store.pages.disk → FindsNextTuple parts.session known.segment number after found body) (tid : Tid) (some : found ≡ Some tid) (read : Option (List Value)) (exact : (values : List Value) → IsBodyOf number (kinds known.fields) values body → read ≡ Some values) where
-    its_tuple : {relation : RelationEntry} {state : State} → IsRelationIn parts number relation state → HasTuple state number relation tid body
+  module _ (after found : Option Tid) (body : List ℕ) (finds : IsTold parts.session.store.pages.disk → FindsNextTuple parts.session known.segment number after found body) (tid : Tid) (some : found ≡ Some tid) (read : Option (List Value)) (exact : (values : List Value) → IsBodyOf parts.session.store.catalog.listing number (kinds known.fields) values body → read ≡ Some values) where
+    its_tuple : {relation : RelationEntry} {state : State} → IsRelationIn parts number relation state → HasTuple parts.session.store.catalog.listing state number relation tid body
     its_tuple {relation = relation} {state = state} in_it =
-        subst (λ (f : Option Tid). IfSome f (λ t. HasTuple state number relation t body)) some
+        subst (λ (f : Option Tid). IfSome f (λ t. HasTuple parts.session.store.catalog.listing state number relation t body)) some
         (finds in_it.told state relation in_it.is_in.kept in_it.is_in.shows (in_segment in_it)).1
 
     -- what is read are its values
-    is_read : {relation : RelationEntry} {state : State} → IsRelationIn parts number relation state → (tuple : HasTuple state number relation tid body) → read ≡ Some tuple.values
-    is_read in_it tuple = exact tuple.values (subst (λ (r : RelationEntry). IsBodyOf number (kinds r.fields) tuple.values body) (its_entry in_it) tuple.spelled)
+    is_read : {relation : RelationEntry} {state : State} → IsRelationIn parts number relation state → (tuple : HasTuple parts.session.store.catalog.listing state number relation tid body) → read ≡ Some tuple.values
+    is_read in_it tuple = exact tuple.values (subst (λ (r : RelationEntry). IsBodyOf parts.session.store.catalog.listing number (kinds r.fields) tuple.values body) (its_entry in_it) tuple.spelled)
 
     -- so there are some
     pub none_unread : IsTold parts.session.store.pages.disk → (state : State) → IsIn parts state → read ≡ None → ⊥
@@ -169,12 +169,6 @@ goes_along definitions (ImagePath image start) last relation is keys at =
 goes_along definitions (LinkPath link parent) last relation is keys at =
     let same : Link link parent ≡ Relation relation = ap (λ (c : Cursor). c.path) is ∙ at in absurd (cc (same))
 
--- no scan that may go on loses its place
-pub none_lost : (definitions : Definitions) (listing : Listing) (state : State) (path : MachinePath) (last : Option Entry) {cursor : Cursor} → spelling definitions path last ≡ cursor → AreLong listing cursor.path cursor.last → unless_in_chain state path last ≡ None
-none_lost definitions listing state (RelationPath relation) last is long = refl
-none_lost definitions listing state (ImagePath image start) last is long = refl
-none_lost definitions listing state (LinkPath link parent) last is long = absurd (subst (λ (c : Cursor). AreLong listing c.path c.last) (sym is) long)
-
 -- ---- along a relation
 
 module _ {parts : RssParts} {t number : ℕ} {cursor : Cursor} (has : cursor_of parts.scans t number ≡ Some cursor) (relation : Name) (at : cursor.path ≡ Relation relation) (after : Option Tid) (last : after ≡ last_of cursor) where
@@ -184,9 +178,13 @@ module _ {parts : RssParts} {t number : ℕ} {cursor : Cursor} (has : cursor_of 
   next_is : {state : State} {scan : MachineScan} → IsScanIn parts t number state scan → next_of_scan (now state) scan ≡ next_along (now state) (RelationPath relation) (option_map (entry []) after)
   next_is {state = state} in_it = let way = its_way in_it in λ i. next_along (now state) (way.along i) (way.gave i)
 
+  -- and it loses no place
+  stays_in : {state : State} {scan : MachineScan} → IsScanIn parts t number state scan → unless_in_chain state scan.path scan.last ≡ None
+  stays_in {state = state} {scan = scan} in_it = let way = its_way in_it in ap (λ (path : MachinePath). unless_in_chain state path scan.last) way.along
+
   -- one that isn't listed has none
   pub unlisted_next : IsUnlisted RelationKind parts.session.store.catalog.listing relation → FindsNext parts t number None
-  unlisted_next unlisted state scan in_it = next_is in_it ∙ none_unlisted in_it.is_in relation unlisted after
+  unlisted_next unlisted state scan in_it = (stays_in in_it, next_is in_it ∙ none_unlisted in_it.is_in relation unlisted after)
 
   module _ (place : ℕ) {known : RelationEntry} (listed : relation_at parts.session.store.catalog.listing place ≡ Some known) (named : known.name ≡ relation) where
     listed_in : {state : State} {scan : MachineScan} → IsScanIn parts t number state scan → IsRelationIn parts place known state
@@ -197,7 +195,7 @@ module _ {parts : RssParts} {t number : ℕ} {cursor : Cursor} (has : cursor_of 
 
     -- nothing comes behind
     pub none_next : FindsBehind parts place after None → FindsNext parts t number None
-    none_next none state scan in_it = next_listed in_it None (none known state (listed_in in_it))
+    none_next none state scan in_it = (stays_in in_it, next_listed in_it None (none known state (listed_in in_it)))
 
     -- or a tuple does
     pub row_next : (key : List ℕ) → key ≡ [] → (tid : Tid) (values : List Value) → FindsRow parts place after tid values → FindsNextRow parts t number key tid values
@@ -205,6 +203,7 @@ module _ {parts : RssParts} {t number : ℕ} {cursor : Cursor} (has : cursor_of 
       gives = λ state scan in_it.
           let way = its_way in_it in record {
             given = [];
+            stays = stays_in in_it;
             next = next_listed in_it (Some tid) (row.next known state (listed_in in_it));
             spelled = subst (λ (path : MachinePath). spelling state.base.definitions path (Some (entry [] tid)) ≡ record (spelling state.base.definitions path scan.last) { last = Some (key, tid) }) (sym way.along)
                 (λ i. record { path = Relation relation; last = Some (sym keyless i, tid) });

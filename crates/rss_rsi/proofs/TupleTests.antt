@@ -1,5 +1,5 @@
 -- What the calls on a tuple that is there are refused for, by the first of their tests that fails.
-use Rattle.std.proofs.Common.{◌≡◌, ℕ, true, List, [], ◌∷◌, drop, refl, ◌∙◌, ap, subst, arith}
+use Rattle.std.proofs.Common.{◌≡◌, ℕ, true, List, [], ◌∷◌, drop, refl, ◌∙◌, ap, subst}
 use Rattle.std.specs.Prelude.{Bool, false, Option, Some, None, is_some, option_map, ⊤}
 use Rattle.std.specs.List.{AllByRecursion}
 use Rattle.rss_base.specs.declared.call.Call.{Call}
@@ -21,7 +21,7 @@ use Rattle.rss_model.specs.Needs.{needs}
 use Rattle.rss_model.specs.Refusals.{busy, if_busy_for, if_connected, if_duplicate}
 use Rattle.rss_model.specs.Steps.{first_of, tests, is_open, if_used_up, keeps_locks, misfit_of, unless_open, unless_defined, unless_live, admission, value_admission, if_full, refusal}
 use Rattle.rss_model.specs.Tables.{content, fields_of}
-use Rattle.rss_model.proofs.Testing.{all_none, holds}
+use Rattle.rss_model.proofs.Testing.{holds}
 use Rattle.rss_model.proofs.Tests.{goes_on, refuses_at, passes_unless, refuses_unless}
 use Rattle.rss_session.proofs.First.{first_stops, first_passes}
 
@@ -50,15 +50,15 @@ abbrev pub KeepsNone : Option Refusal → Type 0
 KeepsNone None = ⊤
 KeepsNone (Some why) = keeps_locks why ≡ false
 
-unless_keeps : (holds : Bool) (why : Refusal) → keeps_locks why ≡ false → KeepsNone (refused_unless holds why)
+pub unless_keeps : (holds : Bool) (why : Refusal) → keeps_locks why ≡ false → KeepsNone (refused_unless holds why)
 unless_keeps true why none = tt
 unless_keeps false why none = none
 
-if_keeps : (holds : Bool) (why : Refusal) → keeps_locks why ≡ false → KeepsNone (refused_if holds why)
+pub if_keeps : (holds : Bool) (why : Refusal) → keeps_locks why ≡ false → KeepsNone (refused_if holds why)
 if_keeps true why none = none
 if_keeps false why none = tt
 
-first_keeps : (all : List (Option Refusal)) → AllByRecursion KeepsNone all → KeepsNone (first_of all)
+pub first_keeps : (all : List (Option Refusal)) → AllByRecursion KeepsNone all → KeepsNone (first_of all)
 first_keeps [] each = tt
 first_keeps (None ∷ rest) each = first_keeps rest each.1
 first_keeps (Some why ∷ rest) each = each.0
@@ -84,14 +84,6 @@ pub used_up_keeps : (state : State) (relation : Name) {why : Refusal} → if_use
 used_up_keeps state relation is = subst KeepsNone is (if_keeps _ (Limit TupleLimit) refl)
 
 module _ (state : State) (t : ℕ) (relation : Name) where
-  -- ---- who is admitted has its transaction open
-
-  pub open_by : admission state t relation ≡ None → is_open state t ≡ true
-  open_by admitted = holds (is_open state t) NoTransaction (all_none (unless_open state t ∷ unless_defined state relation ∷ []) admitted 0 None (omega arith))
-
-  pub open_by_values : (values : List Value) → value_admission state t relation values ≡ None → is_open state t ≡ true
-  open_by_values values admitted = holds (is_open state t) NoTransaction (all_none (unless_open state t ∷ unless_defined state relation ∷ misfit_of (fields_of state.base relation) values ∷ []) admitted 0 None (omega arith))
-
   -- ---- who isn't, is refused so
 
   module _ (tid : Tid) {why : Refusal} where

@@ -9,3 +9,4 @@ pub mod Locking
 pub mod Looking
 pub mod Placing
 pub mod Scanning
+pub mod Linking

@@ -1,13 +1,14 @@
 -- What there is to see of an engine, and what holds of it between two calls.
 use Rattle.std.specs.Prelude.{◌≡◌, ℕ, ◌+◌, ◌*◌, ◌^◌, ◌≤◌, true, List, [], length, replicate, All, Option, Some, None, IfSome, option_map, ⊤}
 use Rattle.std.specs.FinMap.{get}
-use Rattle.rss_base.specs.Listings.{Listing, IsNumberOf, relation_at}
+use Rattle.rss_base.specs.Listings.{Listing, IsNumberOf, IsUnlisted, relation_at}
 use Rattle.rss_base.specs.Steps.{PagesView}
-use Rattle.rss_base.specs.TupleTypes.{misfit, key_width, key_bytes, IsStorable}
+use Rattle.rss_base.specs.Prefixes.{prefix_size}
+use Rattle.rss_base.specs.TupleTypes.{misfit, key_width, key_bytes, tuple_bytes, IsStorable}
 use Rattle.rss_base.specs.declared.item.Item.{Item}
 use Rattle.rss_base.specs.declared.name.Name.{Name}
 use Rattle.rss_base.specs.declared.need.Mode.{Mode}
-use Rattle.rss_base.specs.declared.refusal.Kind.TheVariants.{Image as ImageKind}
+use Rattle.rss_base.specs.declared.refusal.Kind.TheVariants.{Image as ImageKind, Link as LinkKind}
 use Rattle.rss_base.specs.declared.relation.RelationEntry.{RelationEntry}
 use Rattle.rss_base.specs.declared.tid.Tid.{Tid}
 use Rattle.rss_base.specs.declared.value.FieldKind.{FieldKind}
@@ -15,6 +16,7 @@ use Rattle.rss_base.specs.declared.value.Value.{Value}
 use Rattle.rss_node.specs.Pairs.{IsSpelledTid}
 use Rattle.rss_tuple.specs.Placing.{IsChosen}
 use Rattle.rss_catalog.specs.Catalogs.{HasNoLesser}
+use Rattle.rss_members.specs.Calls.{HasForm}
 use Rattle.rss_model.specs.Calls.{EngineView}
 use Rattle.rss_model.specs.Images.{Entry, key_kinds}
 use Rattle.rss_model.specs.Kept.{Kept}
@@ -22,7 +24,6 @@ use Rattle.rss_model.specs.Locks.{held}
 use Rattle.rss_model.specs.Machine.{State}
 use Rattle.rss_model.specs.Scans.{Scans, RelationPath, ImagePath, LinkPath}
 use Rattle.rss_model.specs.Scans.{Path as MachinePath, Scan as MachineScan}
-use Rattle.rss_model.specs.Store.{plain_body}
 use Rattle.rss_model.specs.Tables.{ImageDef, Definitions, fields_in}
 use Rattle.rss_lock.specs.Locks.{LocksView}
 use Rattle.rss_scan.specs.Scans.{OpenScans}
@@ -106,13 +107,17 @@ pub record SameHeld (old new : RssParts) : Type 0 where
   pub locks : new.locks.locks ≡ old.locks.locks
   pub scans : new.scans ≡ old.scans
 
+-- how many bytes a body has whose values have so many: the number of its relation and the blocks of its links stand before them
+abbrev pub body_length : Listing → ℕ → ℕ → ℕ
+body_length listing number values = 1 + prefix_size listing.links number + values
+
 -- The placing rule of tuple stores, for the body of such a tuple.
 pub record MayStandAt (pages : PagesView) (listing : Listing) (relation : Name) (values : List Value) (barred : List Tid) (tid : Tid) : Type 0 where
   pub number : ℕ
   pub entry : RelationEntry
   pub at : relation_at listing number ≡ Some entry
   pub named : entry.name ≡ relation
-  pub chosen : IsChosen pages entry.segment (length (plain_body number values)) barred tid
+  pub chosen : IsChosen pages entry.segment (body_length listing number (length (tuple_bytes values))) barred tid
 
 -- an engine of these parts, which was asked for so many calls
 abbrev pub engine_view : RssParts → ℕ → Type 0 → EngineView
@@ -136,12 +141,19 @@ IsLongFor listing image key =
     (number : ℕ) → IsNumberOf ImageKind listing image number → HasNoLesser ImageKind listing image number
     → IsKeyLong listing number key
 
--- The keys of a scan of an image are as long as the image's. As yet no scan goes along a link.
+-- a link of this name is listed, and the first one has parents exactly where one is given
+abbrev pub HasChain : Listing → Name → Option Tid → Type 0
+HasChain listing link parent =
+    (IsUnlisted LinkKind listing link → ⊥)
+    × ((number : ℕ) → IsNumberOf LinkKind listing link number → HasNoLesser LinkKind listing link number
+    → HasForm listing number parent)
+
+-- The keys of a scan of an image are as long as the image's; and a scan of a link goes along a chain that there may be.
 abbrev pub AreLong : Listing → Path → Option (List ℕ × Tid) → Type 0
 AreLong listing (Relation relation) last = ⊤
 AreLong listing (Image image start) last =
     IsLongFor listing image start × IfSome last (λ given. IsLongFor listing image given.0)
-AreLong listing (Link link parent) last = ⊥
+AreLong listing (Link link parent) last = HasChain listing link parent
 
 -- A scan may go on: its transaction is open.
 pub record MayGoOn (listing : Listing) (opened : OpenView) (scan : Scan) : Type 0 where

@@ -1,8 +1,7 @@
-// Changes of tuples.
+// Changes of tuples and of chains.
 ghost use Rattle.std.specs.Prelude.{◌≡◌, ◌≤◌, true, false, OnOk};
 ghost use Rattle.rss_base.specs.LogRecords.{IsChangeBounded};
 ghost use Rattle.rss_trans.specs.Transactions.{is_open};
-ghost use Rattle.rss_access.specs.Changes.{IsTupleRecord};
 ghost use Rattle.rss_model.specs.Calls.{calls_most};
 ghost use Rattle.rss_session.specs.Calls.{StayOpen};
 ghost use Rattle.rss_rsi.specs.Changing.{IsAsked, IsChangeOf};
@@ -14,14 +13,13 @@ use rss_buffer::Saving;
 impl<S: Saving> Rss<S> {
     ghost use Rattle.rss_rsi.specs.Parts.{parts_of, session_of};
 
-    /// Makes a change of a tuple, where the rules on room and on the log let it through. Nothing is
+    /// Makes a change of a tuple or of a chain, where the rules on room and on the log let it through. Nothing is
     /// changed where they don't, nor where memory runs out.
     pub(crate) fn change(&mut self, transaction: u32, change: Change) -> Result<(), CallError>
         requires up { self.old.down ≡ false }
         requires asked { IsAsked (parts_of self.old) self.old.calls }
         requires few { self.old.calls ≤ calls_most }
         requires open { is_open (session_of self.old).opened transaction ≡ true }
-        requires tuple { IsTupleRecord change }
         requires bounded { IsChangeBounded change }
         ensures did { IsChangeOf (session_of self.old) (session_of self.new)
             (self.new.down ≡ false) transaction change result }

@@ -3,7 +3,7 @@ ghost use Rattle.std.specs.Prelude.{◌≡◌, ◌<◌, true, All, IfOk, IsErrOf
 ghost use Rattle.rss_base.specs.Names.{IsName};
 ghost use Rattle.rss_base.specs.TupleTypes.{field_names};
 ghost use Rattle.rss_base.specs.declared.answer.CallError.TheVariants.{NoMemory};
-ghost use Rattle.rss_base.specs.declared.call.Call.TheVariants.{MakeSegment, MakeRelation, DropSegment, DropRelation};
+ghost use Rattle.rss_base.specs.declared.call.Call.TheVariants.{MakeSegment, MakeRelation, MakeLink, DropSegment, DropRelation, DropLink};
 ghost use Rattle.rss_lock.specs.Table.{told};
 ghost use Rattle.rss_scan.specs.Scans.{told as scans_told};
 ghost use Rattle.rss_model.specs.Calls.{calls_most};
@@ -55,6 +55,27 @@ impl<S: Saving> Rss<S> {
         self.redefine(made)
     }
 
+    /// Defines a link between the tuples of two relations, of which one has the chains, or among those
+    /// of one. It takes no memory.
+    pub fn make_link(
+        &mut self,
+        name: &Name,
+        parent: &Option<Name>,
+        child: &Name,
+    ) -> Result<Reply, CallError>
+        requires few { (view self.old).calls < calls_most }
+        requires name { IsName name.now }
+        ensures did { IsCallOf (view self.old) (view self.new)
+            (MakeLink name.now parent.now child.now) result }
+        ensures untouched { ((view self.old).is_up → ⊥) → self.new ≡ self.old }
+        ensures memory { IsErrOf result NoMemory → ⊥ }
+    {
+        self.ask()?;
+        self.down = true;
+        let made = self.session.make_link(name, parent.as_ref(), child);
+        self.redefine(made)
+    }
+
     /// Takes a segment away. It takes no memory.
     pub fn drop_segment(&mut self, name: &Name) -> Result<Reply, CallError>
         requires few { (view self.old).calls < calls_most }
@@ -78,6 +99,19 @@ impl<S: Saving> Rss<S> {
         self.ask()?;
         self.down = true;
         let made = self.session.drop_relation(name);
+        self.redefine(made)
+    }
+
+    /// Takes a link away. It takes no memory.
+    pub fn drop_link(&mut self, name: &Name) -> Result<Reply, CallError>
+        requires few { (view self.old).calls < calls_most }
+        ensures did { IsCallOf (view self.old) (view self.new) (DropLink name.now) result }
+        ensures untouched { ((view self.old).is_up → ⊥) → self.new ≡ self.old }
+        ensures memory { IsErrOf result NoMemory → ⊥ }
+    {
+        self.ask()?;
+        self.down = true;
+        let made = self.session.drop_link(name);
         self.redefine(made)
     }
 

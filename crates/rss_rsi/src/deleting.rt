@@ -13,7 +13,7 @@ impl<S: Saving> Rss<S> {
     ghost use Rattle.rss_model.specs.Calls.{IsCallOf};
     ghost use Rattle.rss_rsi.specs.Parts.{view};
 
-    /// Takes a tuple away.
+    /// Takes a tuple away that stands in no chain and has none.
     pub fn delete(
         &mut self,
         transaction: u32,
@@ -28,6 +28,10 @@ impl<S: Saving> Rss<S> {
         self.ask()?;
         let number = self.session.admit(transaction, relation)?;
         let found = self.find(transaction, number, relation, tid, Access::Change, None)?;
+        match self.test_unconnected(number, tid) {
+            Ok(()) => (),
+            Err(why) => return Err(self.keep(transaction, found.needs, why)),
+        }
         let entry = self.session.store.catalog.relation(number);
         let change = Change::Delete {
             relation: number,

@@ -122,8 +122,18 @@ impl<S: Saving> Engine for Rss<S> {
                 self.update(*transaction, relation, *tid, tuple)
             }
             Call::Delete(transaction, relation, tid) => self.delete(*transaction, relation, *tid),
+            Call::Connect(transaction, link, child, parent, spot) => {
+                self.connect(*transaction, link, *child, *parent, spot)
+            }
+            Call::Disconnect(transaction, link, child) => {
+                self.disconnect(*transaction, link, *child)
+            }
+            Call::Parent(transaction, link, child) => self.parent(*transaction, link, *child),
             Call::OpenRelation(transaction, relation) => self.open_relation(*transaction, relation),
             Call::OpenImage(transaction, image, from) => self.open_image(*transaction, image, from),
+            Call::OpenLink(transaction, link, parent) => {
+                self.open_link(*transaction, link, *parent)
+            }
             Call::Next(transaction, scan) => self.next(*transaction, *scan),
             Call::CloseScan(transaction, scan) => self.close_scan(*transaction, *scan),
             Call::Lock(transaction, item, exclusive) => self.lock(*transaction, item, *exclusive),
@@ -133,10 +143,11 @@ impl<S: Saving> Engine for Rss<S> {
             Call::MakeImage(name, relation, is_unique, fields) => {
                 self.make_image(name, relation, *is_unique, fields.as_slice())
             }
+            Call::MakeLink(name, parent, child) => self.make_link(name, parent, child),
             Call::DropSegment(name) => self.drop_segment(name),
             Call::DropRelation(name) => self.drop_relation(name),
             Call::DropImage(name) => self.drop_image(name),
-            _ => unreachable!(),
+            Call::DropLink(name) => self.drop_link(name),
         }
     }
 

@@ -4,7 +4,7 @@ ghost use Rattle.rss_base.specs.declared.call.Call.TheVariants.{Insert};
 ghost use Rattle.rss_model.specs.Calls.{calls_most};
 
 use crate::Rss;
-use crate::values::values_of;
+use crate::values::{body_len, values_of};
 use rss_base::{CallError, Change, Name, Reply, Tuple};
 use rss_buffer::Saving;
 
@@ -35,8 +35,8 @@ impl<S: Saving> Rss<S> {
             .fields
             .as_slice();
         let values = values_of(fields, tuple);
-        // The number of the relation stands before the values.
-        let length = values.as_slice().len() as u16 + 1;
+        let catalog = &self.session.store.catalog;
+        let length = body_len(catalog, number, values.as_slice());
         let tid = self.place_for(transaction, number, length)?;
         let Ok(needs) = self.new_needs(number, relation, tid, tuple) else {
             return Err(CallError::NoMemory);

@@ -1,5 +1,5 @@
 // The locks of calls.
-ghost use Rattle.std.specs.Prelude.{◌≡◌, ◌<◌, ◌≤◌, [], ◌∷◌, ◌++◌, Err, None, false, true, is_some, option_copied, option_to_list, vec_len, IfOk, IfSome};
+ghost use Rattle.std.specs.Prelude.{◌≡◌, ◌+◌, ◌<◌, ◌≤◌, [], ◌∷◌, ◌++◌, Err, None, false, true, is_some, option_copied, option_to_list, vec_len, IfOk, IfSome, OnOk};
 ghost use Rattle.std.specs.FinMap.{get};
 ghost use Rattle.rss_base.specs.Listings.{IsNumberOf, image_at};
 ghost use Rattle.rss_base.specs.declared.call.Call.TheVariants.{Lock};
@@ -15,6 +15,7 @@ ghost use Rattle.rss_model.specs.Needs.{need, image_scan_needs, lock_needs, rela
 ghost use Rattle.rss_model.specs.ReplyText.{IsShort};
 ghost use Rattle.rss_session.specs.Admissions.{IsGranuleOf};
 ghost use Rattle.rss_trans.specs.Transactions.{is_open};
+ghost use Rattle.rss_rsi.specs.Linking.{ListsBehind};
 ghost use Rattle.rss_rsi.specs.Locking.{putting, IsSayable, AreSayable, Lists, ListsAccess, MayBeOf, ClaimEnds};
 
 use crate::Rss;
@@ -112,13 +113,35 @@ impl<S: Saving> Rss<S> {
         ensures few { IfOk result (λ needs. vec_len needs ≤ 2) }
         ensures sayable { IfOk result (λ needs. AreSayable needs.items) }
     {
-        let segment = self.session.store.catalog.relation(number).segment;
         let mut needs = Vec::with_capacity(self.alloc, 3)?;
+        self.push_relation(&mut needs, number, relation, coarse, mode)?;
+        Ok(needs)
+    }
+
+    /// Puts the locks of a relation, which has this number, and of its segment before it, behind others.
+    pub(crate) fn push_relation(
+        &self,
+        needs: &mut Vec<Need>,
+        number: u8,
+        relation: &Name,
+        coarse: Mode,
+        mode: Mode,
+    ) -> Result<(), AllocError>
+        requires known { IsNumberOf RelationKind (session_of self.now).store.catalog.listing
+            relation.now number }
+        requires sayable { AreSayable needs.old.items }
+        ensures pushed { OnOk result (ListsBehind (parts_of self.now)
+            (λ tables. relation_needs tables relation.now coarse mode)
+            needs.old.items needs.new.items) }
+        ensures few { OnOk result (vec_len needs.new ≤ vec_len needs.old + 2) }
+        ensures sayable { OnOk result (AreSayable needs.new.items) }
+    {
+        let segment = self.session.store.catalog.relation(number).segment;
         if let Some(segment) = self.session.store.catalog.name_at(Kind::Segment, segment) {
             needs.push(segment_need(&segment, coarse))?;
         }
         needs.push(relation_need(relation, mode))?;
-        Ok(needs)
+        Ok(())
     }
 
     /// The locks of a scan of the image of this number: its relation is read.
@@ -170,7 +193,7 @@ impl<S: Saving> Rss<S> {
     }
 
     /// The locks of a tuple of a relation, which has this number, and of what it stands in.
-    fn plain_needs(
+    pub(crate) fn plain_needs(
         &self,
         number: u8,
         relation: &Name,

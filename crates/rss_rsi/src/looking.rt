@@ -97,8 +97,8 @@ impl<S: Saving> Rss<S> {
         if !there {
             return Ok(None);
         }
-        let entry = self.session.store.catalog.relation(number);
-        let Ok(read) = tuple_of(self.alloc, number, entry.fields.as_slice(), body.as_slice()) else {
+        let catalog = &self.session.store.catalog;
+        let Ok(read) = tuple_of(self.alloc, catalog, number, body.as_slice()) else {
             return Err(CallError::NoMemory);
         };
         self.down = true;
@@ -122,7 +122,7 @@ pub(crate) fn test_read(read: Option<Tuple>, segment: u8, tid: Tid) -> Result<Tu
 }
 
 /// No tuple of the relation has this identifier.
-fn no_tuple(relation: &Name, tid: Tid) -> CallError
+pub(crate) fn no_tuple(relation: &Name, tid: Tid) -> CallError
     ensures is { result ≡ Refused (NoTuple relation.now tid) }
     ensures short { IsShort (Err (NoTuple relation.now tid)) }
 {

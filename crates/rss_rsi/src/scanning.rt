@@ -1,20 +1,23 @@
 // Scans.
 ghost use Rattle.std.specs.Prelude.{◌≡◌, ◌<◌, true, false, Some, None, Err, is_some, option_map, IsSome, IfOk, IfErr, OnOk};
 ghost use Rattle.std.specs.Prelude.{IsErrOf};
-ghost use Rattle.rss_base.specs.Listings.{relation_at};
+ghost use Rattle.rss_base.specs.Listings.{IsNumberOf, relation_at};
 ghost use Rattle.rss_base.specs.declared.answer.CallError.TheVariants.{Refused, NoMemory};
 ghost use Rattle.rss_base.specs.declared.call.Call.TheVariants.{OpenRelation, OpenImage, Next, CloseScan};
-ghost use Rattle.rss_base.specs.declared.refusal.Kind.TheVariants.{Scan as ScanKind};
+ghost use Rattle.rss_base.specs.declared.refusal.Kind.TheVariants.{Scan as ScanKind, Link as LinkKind};
 ghost use Rattle.rss_base.specs.declared.refusal.Refusal.TheVariants.{NoSuch};
+ghost use Rattle.rss_members.specs.Calls.{HasForm};
 ghost use Rattle.rss_model.specs.Calls.{calls_most};
 ghost use Rattle.rss_node.specs.Pairs.{IsSpelledTid};
 ghost use Rattle.rss_rsi.specs.Looking.{EndsEach};
 ghost use Rattle.rss_rsi.specs.Placing.{MayCost};
-ghost use Rattle.rss_rsi.specs.Scanning.{FindsBehind, LooksBehind, FindsNext, GoesAlongImage, CostsLevels};
+ghost use Rattle.rss_rsi.specs.Linking.{TestEnds};
+ghost use Rattle.rss_rsi.specs.Scanning.{FindsBehind, FindsMember, LooksBehind, FindsNext, GoesAlongImage, IsNextOf, ReadEnds, CostsLevels, lost_test};
 ghost use Rattle.rss_scan.specs.Scans.{cursor_of};
 ghost use Rattle.rss_session.specs.Looks.{CostsNothing};
 
 use crate::Rss;
+use crate::linked::not_connected;
 use crate::looking::test_read;
 use rss_access::tuple_of;
 use rss_base::{
@@ -84,7 +87,8 @@ impl<S: Saving> Rss<S> {
 
     /// Gives the next tuple of a scan with its identifier, or tells that there is none, in the tables
     /// as they are now: of a relation, the tuple with the least identifier above the one that was given
-    /// last; of an image, that of the next entry. It locks nothing more. Where all pages are in memory
+    /// last; of an image, that of the next entry; of a link, the one right behind it in the chain. It is
+    /// refused where the tuple that was given last is in that chain no more. It locks nothing more. Where all pages are in memory
     /// the device is asked for nothing, and they stay there.
     pub fn next(&mut self, transaction: u32, scan: u32) -> Result<Reply, CallError>
         requires few { (view self.old).calls < calls_most }
@@ -137,8 +141,8 @@ impl<S: Saving> Rss<S> {
         ensures scans { self.new.scans ≡ self.old.scans }
         ensures looks { IfOk result (LooksBehind (session_of self.old) (session_of self.new)) }
         ensures finds { IfOk result (FindsNext (parts_of self.old) transaction scan) }
-        ensures fails { IfErr result (λ why. EndsEach MayCost (view self.old) (view self.new)
-            (Err why)) }
+        ensures fails { IfErr result (λ why. EndsEach (IsNextOf (parts_of self.old) transaction scan)
+            (view self.old) (view self.new) (Err why)) }
         ensures costs { CostsLevels (parts_of self.old) (parts_of self.new) transaction scan }
         ensures idle { CostsNothing (session_of self.old) (session_of self.new) }
     {
@@ -164,7 +168,18 @@ impl<S: Saving> Rss<S> {
                 };
                 self.find_entry(transaction, scan, number)
             }
-            Path::Link(..) => unreachable!(),
+            Path::Link(link, parent) => {
+                let (link, parent) = (*link, *parent);
+                let after = last_of(cursor);
+                // A scan goes along links that are there alone.
+                let Some(number) = self.session.store.catalog.find(Kind::Link, &link) else {
+                    unreachable!()
+                };
+                match self.find_member(&link, number, parent, after)? {
+                    Some((tid, tuple)) => Ok(Some((Key::new(), tid, tuple))),
+                    None => Ok(None),
+                }
+            }
         }
     }
 
@@ -209,15 +224,78 @@ impl<S: Saving> Rss<S> {
             return Err(CallError::Damaged(Place::Tuple(segment, tid)));
         }
         self.down = false;
-        let entry = self.session.store.catalog.relation(relation);
-        let fields = entry.fields.as_slice();
-        let Ok(read) = tuple_of(self.alloc, relation, fields, body.as_slice()) else {
+        let catalog = &self.session.store.catalog;
+        let Ok(read) = tuple_of(self.alloc, catalog, relation, body.as_slice()) else {
             return Err(CallError::NoMemory);
         };
         self.down = true;
         let tuple = test_read(read, segment, tid)?;
         self.down = false;
         Ok(Some((key, tid, tuple)))
+    }
+
+    /// The tuple right behind this one in the chain of a parent, or the first of all, if there is one.
+    /// Nothing is changed. The call that looks for it is refused where that one isn't in the chain.
+    fn find_member(
+        &mut self,
+        link: &Name,
+        number: u8,
+        parent: Option<Tid>,
+        after: Option<Tid>,
+    ) -> Result<Option<(Tid, Tuple)>, CallError>
+        requires up { self.old.down ≡ false }
+        requires known { IsNumberOf LinkKind (session_of self.old).store.catalog.listing
+            link.now number }
+        requires form { HasForm (session_of self.old).store.catalog.listing number parent }
+        ensures calls { self.new.calls ≡ self.old.calls }
+        ensures locks { self.new.locks ≡ self.old.locks }
+        ensures scans { self.new.scans ≡ self.old.scans }
+        ensures ends { TestEnds (session_of self.old) (session_of self.new) (self.new.down ≡ false)
+            (lost_test link.now parent after) result }
+        ensures finds { IfOk result (FindsMember (session_of self.old) link.now parent after) }
+        ensures idle { CostsNothing (session_of self.old) (session_of self.new) }
+    {
+        self.down = true;
+        let found = self.session.next_member(number, parent, after)?;
+        self.down = false;
+        let Some(next) = found else {
+            return Err(not_connected(link));
+        };
+        let Some(tid) = next else {
+            return Ok(None);
+        };
+        let relation = self.session.store.catalog.link(number).child;
+        let tuple = self.read(relation, tid)?;
+        Ok(Some((tid, tuple)))
+    }
+
+    /// The tuple with this identifier of the relation of this number, which has one.
+    fn read(&mut self, number: u8, tid: Tid) -> Result<Tuple, CallError>
+        requires up { self.old.down ≡ false }
+        requires known { is_some (relation_at (session_of self.old).store.catalog.listing number)
+            ≡ true }
+        ensures calls { self.new.calls ≡ self.old.calls }
+        ensures locks { self.new.locks ≡ self.old.locks }
+        ensures scans { self.new.scans ≡ self.old.scans }
+        ensures ends { ReadEnds (session_of self.old) (session_of self.new) (self.new.down ≡ false)
+            number tid result }
+        ensures idle { CostsNothing (session_of self.old) (session_of self.new) }
+    {
+        let segment = self.session.store.catalog.relation(number).segment;
+        let mut body = Body::new();
+        self.down = true;
+        if !self.session.look(segment, number, tid, &mut body)? {
+            return Err(CallError::Damaged(Place::Tuple(segment, tid)));
+        }
+        self.down = false;
+        let catalog = &self.session.store.catalog;
+        let Ok(read) = tuple_of(self.alloc, catalog, number, body.as_slice()) else {
+            return Err(CallError::NoMemory);
+        };
+        self.down = true;
+        let tuple = test_read(read, segment, tid)?;
+        self.down = false;
+        Ok(tuple)
     }
 
     /// The tuple of the relation of this number with the least identifier behind this one, or the least
@@ -248,8 +326,8 @@ impl<S: Saving> Rss<S> {
         let Some(tid) = found else {
             return Ok(None);
         };
-        let entry = self.session.store.catalog.relation(number);
-        let Ok(read) = tuple_of(self.alloc, number, entry.fields.as_slice(), body.as_slice()) else {
+        let catalog = &self.session.store.catalog;
+        let Ok(read) = tuple_of(self.alloc, catalog, number, body.as_slice()) else {
             return Err(CallError::NoMemory);
         };
         self.down = true;
@@ -260,7 +338,7 @@ impl<S: Saving> Rss<S> {
 }
 
 /// The numbers of an identifier have four bytes and two.
-fn is_sized(tid: Tid)
+pub(crate) fn is_sized(tid: Tid)
     ensures { IsSpelledTid tid }
 {}
 

@@ -32,7 +32,6 @@ use Rattle.rss_trans.specs.Transactions.{OpenView, is_open, transaction_in, is_i
 use Rattle.rss_trans.specs.Told.{IsNumbered, is_tuple, takes_away, IsNoteOf, TellsSince}
 use Rattle.rss_trans.proofs.Told.{change_tells, recounted_tells, same_names}
 use Rattle.rss_trans.proofs.Summing.{since_told}
-use Rattle.rss_access.specs.Changes.{IsTupleRecord, number_told}
 use Rattle.rss_store.specs.Stores.{Grows}
 use Rattle.rss_store.specs.Stores.{IsReady as IsStoreReady}
 use Rattle.rss_store.specs.Changing.{MayMake}
@@ -96,14 +95,6 @@ module _ {old new : SessionView} {t : ℕ} {number : Option ℕ} {size : ℕ} {n
 
 -- ---- what is noted of it
 
--- it is one of a tuple of the relation that it tells
-pub one_told : (told_change : told.Change) → IsTupleRecord told_change → relation_told told_change ≡ Some (number_told told_change)
-one_told (Insert relation tid values) tuple = refl
-one_told (Delete relation tid values) tuple = refl
-one_told (Update relation tid was next) tuple = refl
-one_told (Connect link parent child left) tuple = absurd tuple
-one_told (Disconnect link parent child left) tuple = absurd tuple
-
 -- the relation of its number, whose name the item has
 listed_name : (listing : Listing) (number : ℕ) → {spelled : List ℕ} {held : Option Content} → TellsValues listing number spelled held → IsNumberOf RelationKind listing (name_at RelationKind listing number) number
 listed_name listing number tells =
@@ -121,12 +112,12 @@ module _ (listing : Listing) (by : ℕ) (change : Change) where
   numbered_told (Connect link parent child left) tells means = subst (λ (item : Item). IsNumbered listing item None) (sym tells.item) refl
   numbered_told (Disconnect link parent child left) tells means = subst (λ (item : Item). IsNumbered listing item None) (sym tells.item) refl
 
-  taken_told : (told_change : told.Change) → IsTupleRecord told_change → IsChangeTold listing by told_change change → Means listing told_change change → is_delete_told told_change ≡ takes_away change
-  taken_told (Insert number tid values) tuple tells means = sym (λ i. takes (tells.item i) (means.0 i) (means.1.is i))
-  taken_told (Delete number tid values) tuple tells means = sym (λ i. takes (tells.item i) (means.0.is i) (means.1 i))
-  taken_told (Update number tid was next) tuple tells means = sym (λ i. takes (tells.item i) (means.0.is i) (means.1.is i))
-  taken_told (Connect link parent child left) tuple tells means = absurd tuple
-  taken_told (Disconnect link parent child left) tuple tells means = absurd tuple
+  taken_told : (told_change : told.Change) → IsChangeTold listing by told_change change → Means listing told_change change → is_delete_told told_change ≡ takes_away change
+  taken_told (Insert number tid values) tells means = sym (λ i. takes (tells.item i) (means.0 i) (means.1.is i))
+  taken_told (Delete number tid values) tells means = sym (λ i. takes (tells.item i) (means.0.is i) (means.1 i))
+  taken_told (Update number tid was next) tells means = sym (λ i. takes (tells.item i) (means.0.is i) (means.1.is i))
+  taken_told (Connect link parent child left) tells means = sym (ap (λ (item : Item). takes item change.old change.new) tells.item)
+  taken_told (Disconnect link parent child left) tells means = sym (ap (λ (item : Item). takes item change.old change.new) tells.item)
 
 -- ---- the next state
 
@@ -138,7 +129,7 @@ since_relisted {listing = listing} {other = other} same is = record {
   fewer = is.fewer;
 }
 
-module _ {told_change : told.Change} {old new : SessionView} {t : ℕ} {note : Noted} (tuple : IsTupleRecord told_change) (ready : IsReady old) (opened : is_open old.opened t ≡ true) (weighed_so : weighed old t (relation_told told_change) (record_size (records.Change t told_change)) ≡ Ok false) (notes : Notes t note old.opened new.opened)
+module _ {told_change : told.Change} {old new : SessionView} {t : ℕ} {note : Noted} (ready : IsReady old) (opened : is_open old.opened t ≡ true) (weighed_so : weighed old t (relation_told told_change) (record_size (records.Change t told_change)) ≡ Ok false) (notes : Notes t note old.opened new.opened)
     (at : note.position ≡ old.store.log.end) (relation : note.relation ≡ relation_told told_change) (is_delete : note.is_delete ≡ is_delete_told told_change) (definitions : SameDefinitions old.store.catalog.listing new.store.catalog.listing) (still : CountsStill old new)
     (state : State) (change : Change) (by : change.by ≡ t) (shows : Shows old state) (may : MayMake old.store state told_change change) (store : StoreMakesOne new.store state change) where
   abbrev listing : Listing
@@ -171,7 +162,7 @@ module _ {told_change : told.Change} {old new : SessionView} {t : ℕ} {note : N
   is_note = record {
     position = at ∙ shows.store.logged.end_is ∙ sym shows.store.tied.ties.meter.end;
     relation = subst (IsNumbered listing change.item) (sym relation) its;
-    is_delete = is_delete ∙ taken_told listing change.by change told_change tuple may.told.tells may.told.means;
+    is_delete = is_delete ∙ taken_told listing change.by change told_change may.told.tells may.told.means;
   }
 
   few : state.meter.since < 2 ^ 64 - 1

@@ -7,7 +7,7 @@ use Rattle.std.specs.FinMap.{FinMap, len-empty, empty_of_len}
 use Rattle.std.proofs.lemmas.Bool.{true≢false, le-leb, lt-leb, or_from, ne_eqb}
 use Rattle.rss_base.specs.Sizes.{page_bytes, relations_most, system_pages}
 use Rattle.rss_base.specs.TupleTypes.{kinds, width, most_width, are_kinds, field_names}
-use Rattle.rss_base.specs.Listings.{Listing, ListingFits, IsNumberOf, IsUnlisted, AreAllUsed, relation_at, image_at, with_number, with_segment, with_relation, padded, segment_spelled, relation_spelled, relations_on, image_spelled, images_on, link_spelled, relation_pages, image_pages, catalog_page}
+use Rattle.rss_base.specs.Listings.{Listing, ListingFits, IsNumberOf, IsUnlisted, AreAllUsed, relation_at, image_at, roles_of, with_number, with_segment, with_relation, padded, segment_spelled, relation_spelled, relations_on, image_spelled, images_on, link_spelled, relation_pages, image_pages, catalog_page}
 use Rattle.rss_base.specs.Steps.{PagesView}
 use Rattle.rss_base.specs.declared.name.Name.{Name}
 use Rattle.rss_base.specs.declared.field.FieldDef.{FieldDef}
@@ -21,6 +21,7 @@ use Rattle.rss_base.specs.declared.refusal.Refusal.{Refusal}
 use Rattle.rss_base.specs.declared.refusal.Refusal.TheVariants.{NoSuch, NameTaken, Limit, NotEmpty, TransactionsOpen}
 use Rattle.rss_catalog.specs.Catalogs.{HasRelationIn, HasImageOf, HasLinkOf, Lists, page_of}
 use Rattle.rss_catalog.proofs.Numbered.{with_other}
+use Rattle.rss_model.specs.Chains.{parts_of}
 use Rattle.rss_model.specs.Tables.{tuple_count}
 use Rattle.rss_model.specs.Changes.{Change, after}
 use Rattle.rss_model.specs.Machine.{State, now}
@@ -31,7 +32,7 @@ use Rattle.rss_model.specs.ReplyText.{IsShort}
 use Rattle.rss_model.specs.Store.{SpellsTables}
 use Rattle.rss_model.proofs.ByNumber.{segment_named, segment_unnamed, relation_named, relation_unnamed, segments_full, segments_left, relations_full, relations_left, segment_used, segment_unused}
 use Rattle.rss_model.proofs.Heap.{nothing}
-use Rattle.rss_model.proofs.PlainStores.{no_link_at, no_links_defined, no_link_of}
+use Rattle.rss_model.proofs.Prefixes.{parts_are}
 use Rattle.rss_model.proofs.Tests.{goes_on, passes_if, passes_unless, refuses_at, refuses_if, make_segment_taken, make_segment_many, make_segment_passes, drop_segment_lacks, drop_segment_full, drop_segment_passes, drop_relation_lacks, drop_relation_full, make_relation_lacks, make_relation_taken, make_relation_many, make_relation_passes}
 use Rattle.rss_trans.specs.Transactions.{Transaction}
 use Rattle.rss_trans.specs.Tables.{told}
@@ -47,6 +48,7 @@ use Rattle.rss_session.specs.declared.session.Session.{Session}
 use Rattle.rss_session.proofs.Admitted.{least_same}
 use Rattle.rss_session.proofs.Fresh.{no_entries, none_counted}
 use Rattle.rss_session.proofs.Imaged.{image_named, none_named}
+use Rattle.rss_session.proofs.Linked.{role_there, role_absent}
 
 -- ---- what was found
 
@@ -68,6 +70,13 @@ refused_for pages_view session call (Err other) is says short = record {
   redefines = tt;
   same = refl;
 }
+
+-- where the refusal that came is this one
+pub refused_as : {S : Type 0} (pages_view : S → PagesView) (session : Session S) (call : Call) {fault why : Refusal} (result : Result (Unit {0}) Refusal) → IsErrAnd result (λ (other : Refusal). other ≡ fault) → fault ≡ why
+    → Says (view pages_view session) (λ state. refusal state call) (Some why) → IsShort (Err why) → Defining pages_view session session call result
+refused_as pages_view session call result is same says short =
+    refused_for pages_view session call result is (subst (λ (w : Refusal). Says (view pages_view session) (λ state. refusal state call) (Some w)) (sym same) says)
+    (subst (λ (w : Refusal). IsShort (Err w)) (sym same) short)
 
 -- what a first test refuses
 pub refused : {S : Type 0} (pages_view : S → PagesView) (session : Session S) (call : Call) (first : State → Option Refusal) {why : Refusal} (result : Result (Unit {0}) Refusal) → IsErrAnd result (λ (other : Refusal). other ≡ why)
@@ -106,7 +115,7 @@ module _ {view : SessionView} {state : State} (shows : Shows view state) (closed
       )
 
   -- the committed counts are those now
-  base_live : (number : ℕ) (entry : RelationEntry) → relation_at view.store.catalog.listing number ≡ Some entry → tuple_count state.base.contents entry.name ≡ entry.live
+  pub base_live : (number : ℕ) (entry : RelationEntry) → relation_at view.store.catalog.listing number ≡ Some entry → tuple_count state.base.contents entry.name ≡ entry.live
   base_live number entry at = ap (λ (changes : List Change). tuple_count (after state.base.contents changes) entry.name) (sym none_changed) ∙ spells.counts number entry at
 
   -- ---- a segment
@@ -159,14 +168,26 @@ module _ {view : SessionView} {state : State} (shows : Shows view state) (closed
         or_second true c on = refl
         or_second false c on = ap (λ (x : Bool). x || c) on
 
-    pub relation_linked : HasLinkOf view.store.catalog.listing number → refusal state (DropRelation name) ≡ Some NotEmpty
-    relation_linked has = absurd (no_link_at view.store.catalog.listing spells.no_links has.number has.link has.at)
+    -- its parts in links, by its number
+    roles_are : parts_of state.base.definitions name ≡ roles_of view.store.catalog.listing number
+    roles_are = ap (parts_of state.base.definitions) (sym named) ∙ parts_are spells.listed spells.defines number entry at
 
-    pub relation_drops : entry.live ≡ 0 → (HasImageOf view.store.catalog.listing number → ⊥) → refusal state (DropRelation name) ≡ None
-    relation_drops empty none =
+    pub relation_linked : HasLinkOf view.store.catalog.listing number → refusal state (DropRelation name) ≡ Some NotEmpty
+    relation_linked has =
+        let linked : has_link state name ≡ true = le-leb 1 (parts_of state.base.definitions name) (omega (arith, roles_are, role_there has)) in
+        goes_on _ none_is_open ∙ goes_on _ (passes_unless (NoSuch RelationKind) there)
+        ∙ refuses_at _ (refuses_if NotEmpty (or_last (holds_tuples state name) (has_image state name) linked))
+      where
+        or_last : {c : Bool} (a b : Bool) → c ≡ true → (a || b || c) ≡ true
+        or_last true b on = refl
+        or_last false true on = refl
+        or_last false false on = on
+
+    pub relation_drops : entry.live ≡ 0 → (HasImageOf view.store.catalog.listing number → ⊥) → (HasLinkOf view.store.catalog.listing number → ⊥) → refusal state (DropRelation name) ≡ None
+    relation_drops empty none unlinked =
         let imaged : has_image state name ≡ false = subst (λ (n : Name). has_image state n ≡ false) named (none_named spells.listed spells.defines number entry at none) in
         let tuples : holds_tuples state name ≡ false = lt-leb 1 (tuple_count state.base.contents name) (omega (arith, as_many, empty)) in
-        let linked : has_link state name ≡ false = no_link_of state.base.definitions (no_links_defined spells.no_links spells.defines) name in
+        let linked : has_link state name ≡ false = lt-leb 1 (parts_of state.base.definitions name) (omega (arith, roles_are, role_absent unlinked)) in
         goes_on _ none_is_open ∙ goes_on _ (passes_unless (NoSuch RelationKind) there)
         ∙ goes_on _ (passes_if NotEmpty (λ i. tuples i || imaged i || linked i))
 
@@ -205,14 +226,14 @@ module _ {view : SessionView} {state : State} (shows : Shows view state) (closed
 
 -- ---- what they make of the session
 
-pub redefines : {S : Type 0} {call : Call} {old new : Session S} {listing : Listing} (page : ℕ) → (ListingFits old.store.catalog.listing → page < system_pages) → Relists old.store.catalog.listing call listing → Lists listing page old.store.catalog new.store.catalog → ((k : ℕ) → k ≢ page → catalog_page listing k ≡ catalog_page old.store.catalog.listing k) → (ListingFits old.store.catalog.listing → ListingFits new.store.catalog.listing) → ((number : ℕ) (image : ImageEntry) → image_at old.store.catalog.listing number ≡ Some image → relation_at listing image.relation ≡ relation_at old.store.catalog.listing image.relation)
+pub redefines : {S : Type 0} {call : Call} {old new : Session S} {listing : Listing} (page : ℕ) → (ListingFits old.store.catalog.listing → page < system_pages) → Relists old.store.catalog.listing call listing → Lists listing page old.store.catalog new.store.catalog → ((k : ℕ) → k < system_pages → k ≢ page → catalog_page listing k ≡ catalog_page old.store.catalog.listing k) → (ListingFits old.store.catalog.listing → ListingFits new.store.catalog.listing) → ((number : ℕ) (image : ImageEntry) → image_at old.store.catalog.listing number ≡ Some image → relation_at listing image.relation ≡ relation_at old.store.catalog.listing image.relation)
     → (told old.«open»).transactions ≡ finite.empty → IsBut old new → Redefines call old new
 redefines {call = call} {old = old} page low relists lists others fits imaged closed but = record {
   page = page;
   low = low;
   relists = subst (Relists old.store.catalog.listing call) (sym lists.is) relists;
   lists = record { is = refl; pending = lists.pending };
-  others = λ k other. ap (λ (l : Listing). catalog_page l k) lists.is ∙ others k other;
+  others = λ k low other. ap (λ (l : Listing). catalog_page l k) lists.is ∙ others k low other;
   fits = fits;
   imaged = λ number image at. ap (λ (l : Listing). relation_at l image.relation) lists.is ∙ imaged number image at;
   closed = closed;

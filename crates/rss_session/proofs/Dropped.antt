@@ -3,7 +3,7 @@ use Rattle.std.proofs.Common.{◌≡◌, inl, inr, ℕ, false, refl, sym, ◌∙
 use Rattle.std.specs.Prelude.{Some, None, is_some}
 use Rattle.std.specs.FinMap.{empty}
 use Rattle.std.proofs.lemmas.Bool.{cases_Bool}
-use Rattle.rss_base.specs.Listings.{Listing, IsUnlisted}
+use Rattle.rss_base.specs.Listings.{IsUnlisted}
 use Rattle.rss_base.specs.Steps.{PagesView}
 use Rattle.rss_base.specs.declared.call.Call.TheVariants.{DropImage}
 use Rattle.rss_base.specs.declared.image.ImageEntry.{ImageEntry}
@@ -51,11 +51,10 @@ module _ {old : SessionView} {pages : PagesView} {catalog : CatalogView} {number
   image_taken {name = name} named ready closed =
       let lists = taken.takes.lists in
       let touches = touches_images old taken.step catalog in
-      let links = ap (λ (l : Listing). l.links) lists.is in
       let can = taken_can taken (record { heaps = ready.store.heaps; tables = ready.store.tables }) in record {
         closed = closed;
         touches = touches;
-        saves = can_save_touched ready touches (store_touched old taken.step catalog ready.store (pending_long lists ready.store.pending_places) (links ∙ ready.store.no_links) can);
+        saves = can_save_touched ready touches (store_touched old taken.step catalog ready.store (pending_long lists ready.store.pending_places) can);
         redefines = λ told state kept shows.
             redefined_touched ready touches told closed kept shows (DropImage name) (without_image state.base.definitions name) (image_drops shows closed taken.at named) tt refl
             (taken_written taken shows.store.spells.listed told ready.store.pending_places shows.store.written)

@@ -1,9 +1,9 @@
 -- The listing of an image that is made: it is listed first, and then where its tree begins.
-use Rattle.std.proofs.Common.{◌≡◌, ◌≢◌, ℕ, ◌-◌, ◌≤◌, true, Bool, List, length, sym, ◌∙◌, ap, arith}
+use Rattle.std.proofs.Common.{◌≡◌, ℕ, ◌-◌, ◌≤◌, true, Bool, List, length, sym, ◌∙◌, ap, arith}
 use Rattle.std.specs.Prelude.{Option, Some, None, is_some, slice_set}
 use Rattle.std.proofs.lemmas.List.{length-map, set-set}
 use Rattle.std.proofs.lemmas.Option.{same_Some}
-use Rattle.rss_base.specs.Listings.{Listing, ListingFits, IsLeastUnused, catalog_page, relation_at, image_at, with_image, with_root}
+use Rattle.rss_base.specs.Listings.{Listing, ListingFits, IsLeastUnused, relation_at, image_at, with_image, with_root}
 use Rattle.rss_base.specs.declared.image.ImageEntry.{ImageEntry}
 use Rattle.rss_base.specs.declared.name.Name.{Name}
 use Rattle.rss_base.specs.declared.refusal.Kind.TheVariants.{Image as ImageKind}

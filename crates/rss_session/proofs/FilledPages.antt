@@ -18,11 +18,10 @@ use Rattle.rss_model.proofs.MappedKeys.{same_mapped_of}
 use Rattle.rss_model.proofs.Saving.{more_bound}
 use Rattle.rss_model.proofs.StorePages.{pages_split}
 use Rattle.rss_entries.specs.Rooms.{width_of}
-use Rattle.rss_trans.specs.Transactions.{OpenView}
 use Rattle.rss_access.specs.Written.{heap_now}
 use Rattle.rss_session.specs.Filling.{pages_for, RoomsImage, HasFewPages, TouchesImages, ListsImage}
-use Rattle.rss_session.specs.Sessions.{SessionView, IsReady, sums_in}
-use Rattle.rss_session.specs.Weighing.{survived_now, saved_most, saved_images_with, HasSavedRoom}
+use Rattle.rss_session.specs.Sessions.{SessionView, IsReady}
+use Rattle.rss_session.specs.Weighing.{survived_now, saved_most, saved_images_with}
 use Rattle.rss_session.proofs.FilledLists.{image_free, listed_once, number_high}
 use Rattle.rss_session.proofs.Traffic.{live_is}
 
@@ -84,12 +83,3 @@ module _ {old new : SessionView} (touches : TouchesImages old new) where
     images_more =
         (λ i. listed_bound (lists.lists.is i) (λ number. live_of (lists.lists.is i) number + survived_now (touches.opened i) number))
         ∙ bound_more listing lists.number (with_root lists.root lists.levels entry) (saved_most old) lists.least.low (number_high lists.least) (image_free lists.least)
-
-    -- there is room behind a checkpoint, where the image has no more pages than it may
-    pub saved_room_filled : RoomsImage old entry → HasFewPages old
-        → mapped_of new.store.pages.mapped ImageSpace new.store.pages.slots ≤ mapped_of old.store.pages.mapped ImageSpace old.store.pages.slots + pages_for old entry
-        → HasSavedRoom new
-    saved_room_filled room few more = record {
-      slots = omega (arith, room.slots, images_more, heap_same, ap (λ (o : OpenView). (sums_in o).p) touches.opened, ap (λ r. r.slots) touches.root);
-      images = omega (arith, few, more, images_more);
-    }

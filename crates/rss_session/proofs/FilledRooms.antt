@@ -23,6 +23,7 @@ use Rattle.rss_model.specs.Tables.{RelationDef, ImageDef, Definitions, fields_in
 use Rattle.rss_model.proofs.ImageFields.{numbers_back}
 use Rattle.rss_model.proofs.Listed.{listed}
 use Rattle.rss_model.proofs.MapSums.{insert_sum}
+use Rattle.rss_value.specs.Numbers.{IsNumberOf}
 use Rattle.rss_entries.specs.Rooms.{width_of}
 use Rattle.rss_session.specs.Filling.{pages_for, room_for}
 use Rattle.rss_session.specs.Planning.{PlansImage}
@@ -43,6 +44,9 @@ module _ {listing : Listing} {name relation : Name} {is_unique : Bool} {fields :
 
   pub planned_within : All (IsFieldNumber (length plans.within.fields)) (field_numbers entry)
   planned_within = subst (λ (r : RelationEntry). All (IsFieldNumber (length r.fields)) (field_numbers entry)) planned_relation planned_fits.within
+
+  pub planned_numbers : All (IsNumberOf plans.within.fields) (field_numbers entry)
+  planned_numbers k d low = let is = planned_within k d low in (is.low, is.high)
 
   pub planned_narrow : width_of entry plans.within ≤ most_key_width
   planned_narrow = subst (λ (r : RelationEntry). width_of entry r ≤ most_key_width) planned_relation planned_fits.narrow

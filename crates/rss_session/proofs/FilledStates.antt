@@ -1,20 +1,14 @@
 -- What the session is once an image is listed and its tree is built: its definition may be committed.
-use Rattle.std.proofs.Common.{◌≡◌, ◌≢◌, inl, inr, ℕ, true, false, Bool, List, length, get_or, refl, sym, ◌∙◌, ap, subst, arith}
-use Rattle.std.specs.Prelude.{Some, is_some, slice_set}
+use Rattle.std.proofs.Common.{◌≡◌, refl, subst}
+use Rattle.std.specs.Prelude.{is_some}
 use Rattle.std.specs.FinMap.{empty}
-use Rattle.std.proofs.lemmas.Bool.{cases_eq}
-use Rattle.std.proofs.lemmas.List.{get_or-set_same, get_or-set_other}
 use Rattle.rss_base.specs.DiskRule.{IsTold}
-use Rattle.rss_base.specs.Listings.{Listing, catalog_page}
 use Rattle.rss_base.specs.Names.{IsName}
-use Rattle.rss_base.specs.Paged.{Held}
-use Rattle.rss_base.specs.Sizes.{system_pages}
 use Rattle.rss_base.specs.declared.call.Call.{Call}
 use Rattle.rss_base.specs.declared.call.Call.TheVariants.{MakeImage}
 use Rattle.rss_base.specs.declared.image.ImageEntry.{ImageEntry}
 use Rattle.rss_base.specs.declared.key.PageKey.{PageKey}
 use Rattle.rss_base.specs.declared.name.Name.{Name}
-use Rattle.rss_catalog.specs.Catalogs.{CatalogView, Lists}
 use Rattle.rss_model.specs.Defining.{with_definitions, with_image, image_def}
 use Rattle.rss_model.specs.Kept.{Kept}
 use Rattle.rss_model.specs.Machine.{State}
@@ -22,7 +16,7 @@ use Rattle.rss_model.specs.Store.{SpellsTables, image_definition}
 use Rattle.rss_model.specs.Tables.{Definitions, ImageDef}
 use Rattle.rss_access.specs.Written.{AreWritten}
 use Rattle.rss_session.specs.Calls.{IsRedefined}
-use Rattle.rss_session.specs.Filling.{HasFewPages, TouchesImages, ListsImage, MayMakeImage}
+use Rattle.rss_session.specs.Filling.{HasFewPages, TouchesImages, MayMakeImage}
 use Rattle.rss_session.specs.Sessions.{SessionView, IsReady}
 use Rattle.rss_session.specs.Shown.{Shows}
 use Rattle.rss_session.proofs.FilledRooms.{planned_fits}

@@ -1,5 +1,5 @@
 -- The tree of a planned image is built of its entries: what the session is then.
-use Rattle.std.proofs.Common.{◌≡◌, ℕ, List, sym, ◌∙◌, ap, subst, arith}
+use Rattle.std.proofs.Common.{◌≡◌, ℕ, List, sym, ◌∙◌, subst, arith}
 use Rattle.std.specs.Prelude.{Some}
 use Rattle.std.specs.FinMap.{empty}
 use Rattle.std.proofs.Math.Logic.{∥∥₁_map}
@@ -85,9 +85,8 @@ module _ {old : SessionView} {entry : ImageEntry} {entries : List (List ℕ × T
 
     builds_saves : CanSave new
     builds_saves =
-        let links = ap (λ (l : Listing). l.links) builds_lists.lists.is in
         can_save_touched ready (touches_images old builds.step catalog)
-        (store_touched old builds.step catalog ready.store (pending_long builds_lists.lists ready.store.pending_places) (links ∙ ready.store.no_links) builds_can)
+        (store_touched old builds.step catalog ready.store (pending_long builds_lists.lists ready.store.pending_places) builds_can)
 
     builds_fills : old.opened.transactions ≡ empty → FillsImage old new entry
     builds_fills closed told state kept shows may =

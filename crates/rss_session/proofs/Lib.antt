@@ -20,9 +20,11 @@ pub mod Fresh
 pub mod First
 pub mod FieldNames
 pub mod Imaged
+pub mod Linked
 pub mod Lines
 pub mod Admitted
 pub mod Defined
+pub mod LinkDefined
 pub mod Relisting
 pub mod Looked
 pub mod Fewer
@@ -36,6 +38,8 @@ pub mod Restored
 pub mod Aborted
 pub mod Props
 pub mod Behind
+pub mod LinksLooked
+pub mod LinkAdmitted
 pub mod NextUniques
 pub mod Duplicates
 pub mod Starts

@@ -28,7 +28,6 @@ use Rattle.rss_model.specs.Spares.{PageCounts, page_counts, change_counts, HasRo
 use Rattle.rss_model.specs.Store.{IsListed, SpellsTables}
 use Rattle.rss_model.specs.Tables.{segment_of}
 use Rattle.rss_model.proofs.Listed.{listed, stands_within}
-use Rattle.rss_model.proofs.PlainStores.{contents_spelled}
 use Rattle.rss_model.proofs.StepKeeping.{kept_fit}
 use Rattle.rss_access.specs.Tuples.{body_at, FindsBody}
 use Rattle.rss_tuple.specs.Placing.{IsNameable, IsChosen, IsFree}
@@ -76,7 +75,6 @@ module _ (old : SessionView) {pages : PagesView} {asks writes : ℕ} (passes : P
       system = λ page low. ap (λ (m : Mapped). m (page_key 0 System page)) mapped ∙ ready.store.system page low;
       pending_places = ready.store.pending_places;
       settled_now = passes.leaves.stays_settled ready.store.settled_now;
-      no_links = ready.store.no_links;
       heaps = heaps;
       tables = has_tables_still passes.slots refl passes.leaves.told.1 (λ told key off. ap (λ (h : Held). h key) (held told)) ready.store.tables;
     };
@@ -202,7 +200,7 @@ has_no_place {view = view} {segment = segment} {barred = barred} ready none told
     by : (body : Option (List ℕ)) → body_at view.store.pages segment tid ≡ body → body ≡ None
     by None is = refl
     by (Some body) is =
-        let of = (contents_spelled shows.store.spells).bodies_are segment tid body is in
+        let of = shows.store.spells.contents.bodies_are segment tid body is in
         let name = its_segment shows in_it in
         let same : segment_at view.store.catalog.listing of.relation.segment ≡ Some name.0 = ap (segment_at view.store.catalog.listing) (of.within ∙ sym in_it.within) ∙ name.1.within in
         let other = stands_within (now state) shows.store.spells.listed shows.store.spells.defines of.number of.relation of.at name.0 same in

@@ -1,5 +1,5 @@
 -- The next tuple that pages have of a relation is what its list has next.
-use Rattle.std.proofs.Common.{ℕ, true, List, sym, ◌∙◌, ap, subst}
+use Rattle.std.proofs.Common.{ℕ, true, List, ◌++◌, sym, ◌∙◌, ap, subst}
 use Rattle.std.specs.Prelude.{Option, Some, None}
 use Rattle.std.proofs.lemmas.Option.{same_Some}
 use Rattle.rss_base.specs.Steps.{PagesView}
@@ -7,7 +7,7 @@ use Rattle.rss_base.specs.TupleTypes.{tuple_bytes}
 use Rattle.rss_base.specs.declared.relation.RelationEntry.{RelationEntry}
 use Rattle.rss_base.specs.declared.tid.Tid.{Tid}
 use Rattle.rss_model.specs.Machine.{State, now}
-use Rattle.rss_model.proofs.PlainStores.{contents_spelled}
+use Rattle.rss_model.specs.Store.{prefix_of}
 use Rattle.rss_model.proofs.RelationLists.{StandsAfter, next_is, next_none}
 use Rattle.rss_model.proofs.StepKeeping.{kept_fit}
 use Rattle.rss_access.specs.Tuples.{body_at, FindsBody, IsNextOf, IsNextBody, FindsNextBody}
@@ -28,9 +28,9 @@ module _ (view : SessionView) (segment number : ℕ) (after : Option Tid) where
   -- a tuple of the relation has its body in the pages
   next_of : (state : State) (relation : RelationEntry) → Shows view state → IsRelationIn view segment number relation → (tid : Tid) → StandsAfter (now state) relation.name after tid → IsNextOf segment number after view.store.pages tid
   next_of state relation shows in_it tid stands = record {
-    rest = tuple_bytes stands.values;
+    rest = prefix_of view.store.catalog.listing (now state).contents number tid ++ tuple_bytes stands.values;
     behind = stands.behind;
-    body = ap (λ (s : ℕ). body_at view.store.pages s tid) (sym in_it.within) ∙ (contents_spelled shows.store.spells).stands number relation tid stands.values in_it.at stands.there;
+    body = ap (λ (s : ℕ). body_at view.store.pages s tid) (sym in_it.within) ∙ shows.store.spells.contents.stands number relation tid stands.values in_it.at stands.there;
   }
 
   pub finds_next : (found : Option Tid) (body : List ℕ) → FindsNextBody segment number after view.store.pages found body → FindsNextTuple view segment number after found body

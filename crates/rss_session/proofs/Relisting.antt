@@ -1,37 +1,41 @@
 -- What a call that defines makes of the pages, of the machine's state and of the session.
-use Rattle.std.proofs.Common.{◌≡◌, inl, inr, ℕ, ◌≤◌, true, false, Bool, List, length, get_or, refl, sym, ◌∙◌, ap, subst, arith}
-use Rattle.std.specs.Prelude.{Option, Some, None, is_some, option_map, slice_index, slice_set}
+use Rattle.std.proofs.Common.{◌≡◌, inl, inr, ℕ, ◌≤◌, true, false, Bool, List, [], ◌∷◌, length, get_or, refl, sym, ◌∙◌, ap, subst, arith}
+use Rattle.std.specs.Prelude.{Option, Some, None, is_some, option_map, slice_index, slice_set, All}
 use Rattle.std.specs.FinMap.{empty, get}
-use Rattle.std.proofs.lemmas.Bool.{cases_eq, true≢false}
+use Rattle.std.proofs.lemmas.Bool.{cases_eq, eq-eqb, true≢false}
 use Rattle.std.proofs.lemmas.List.{get_or-set_same, get_or-set_other, length-set}
 use Rattle.std.proofs.lemmas.Option.{none-some, same_Some}
 use Rattle.std.proofs.Math.Logic.{∥∥₁_map}
 use Rattle.rss_base.specs.Paged.{Held}
 use Rattle.rss_base.specs.Sizes.{log_pages_least, system_pages}
 use Rattle.rss_base.specs.Steps.{PagesView}
-use Rattle.rss_base.specs.Listings.{Listing, ListingFits, numbered, relation_at, image_at}
+use Rattle.rss_base.specs.Listings.{Listing, ListingFits, numbered, relation_at, image_at, link_at, has_role}
 use Rattle.rss_base.specs.TupleTypes.{kinds}
 use Rattle.rss_base.specs.declared.image.ImageEntry.{ImageEntry}
-use Rattle.rss_base.specs.declared.item.Item.TheVariants.{Tuple as TupleItem}
+use Rattle.rss_base.specs.declared.link.LinkEntry.{LinkEntry}
+use Rattle.rss_base.specs.declared.item.Item.TheVariants.{Tuple as TupleItem, Chain as ChainItem}
 use Rattle.rss_base.specs.declared.name.Name.{Name}
 use Rattle.rss_base.specs.declared.tid.Tid.{Tid}
 use Rattle.rss_base.specs.declared.value.FieldKind.{FieldKind}
 use Rattle.rss_base.specs.declared.call.Call.{Call}
-use Rattle.rss_model.specs.Tables.{RelationDef, Definitions, Tables, content, tuple_count}
+use Rattle.rss_model.specs.Chains.{is_there, LinksFit}
+use Rattle.rss_model.specs.Tables.{RelationDef, LinkDef, Definitions, Tables, content, tuple_count}
 use Rattle.rss_model.specs.Changes.{Change}
 use Rattle.rss_model.specs.Machine.{StoreSize, State, with_changes}
 use Rattle.rss_model.specs.Fits.{Fits, IsLive}
 use Rattle.rss_model.specs.Kept.{Kept}
 use Rattle.rss_model.specs.Defining.{defined, with_definitions, relation_def, DefinesNames}
 use Rattle.rss_model.specs.Steps.{refusal}
-use Rattle.rss_model.specs.Store.{SpellsTables, AreNodesWithin, size_of}
+use Rattle.rss_model.specs.Store.{SpellsTables, AreNodesWithin, link_definition, size_of}
 use Rattle.rss_model.proofs.BothRooms.{definitions_keep_rooms}
 use Rattle.rss_model.proofs.ByNumber.{relation_unnamed}
 use Rattle.rss_model.proofs.Counts.{none_counted}
+use Rattle.rss_model.proofs.LinkMade.{HasNoTuples, link_made_spells, link_gone_spells}
 use Rattle.rss_model.proofs.LogLists.{some_of}
 use Rattle.rss_model.proofs.Named.{made_other, gone_other}
 use Rattle.rss_model.proofs.Redefining.{defined_fits, live_defined}
 use Rattle.rss_model.proofs.Relisted.{segment_made_spells, segment_gone_spells, relation_made_spells, relation_gone_spells}
+use Rattle.rss_model.proofs.Spelled.{listed_link}
 use Rattle.rss_model.proofs.StepKeeping.{kept_fit}
 use Rattle.rss_trans.specs.Tables.{told}
 use Rattle.rss_catalog.specs.Catalogs.{CatalogView}
@@ -39,31 +43,69 @@ use Rattle.rss_entries.specs.Images.{AreTuples}
 use Rattle.rss_access.specs.Changes.{both, HasTables}
 use Rattle.rss_access.specs.Written.{AreWritten}
 use Rattle.rss_session.specs.Calls.{IsRedefined}
-use Rattle.rss_session.specs.Definitions.{entry_of, Relists, Redefines}
-use Rattle.rss_session.specs.Definitions.Relists.{segment, relation, drop_segment, drop_relation}
+use Rattle.rss_session.specs.Definitions.{entry_of, link_entry, AreEmpty, Relists, Redefines}
+use Rattle.rss_session.specs.Definitions.Relists.{segment, relation, drop_segment, drop_relation, link, drop_link}
 use Rattle.rss_session.specs.Parts.{view}
 use Rattle.rss_session.specs.Sessions.{SessionView, IsReady, CanSave, IsEarly}
 use Rattle.rss_session.specs.Shown.{Shows}
 use Rattle.rss_session.specs.declared.session.Session.{Session}
 use Rattle.rss_session.proofs.Defined.{none_changed, none_marked}
+use Rattle.rss_session.proofs.Linked.{link_free, link_high, link_unnamed}
 use Rattle.rss_session.proofs.Rebuilt.{IsRebuilt, stands_behind}
 
 -- ---- the pages
 
--- The call defines so, and the pages spell its tables, whose definitions are listed anew. A relation that has a tuple is defined as it was.
+-- the link has a chain below this parent, or without one
+abbrev HasChain : Tables → Name → Option Tid → Type 0
+HasChain tables name parent = is_some (content tables.contents (ChainItem name parent)) ≡ true
+
+-- The call defines so, and the pages spell its tables, whose definitions are listed anew. A relation that has a tuple is defined as it was, and so is a link that has a chain.
 pub record IsRelisted (held : Held) (call : Call) (listing : Listing) (tables : Tables) : Type 0 where
   pub definitions : Definitions
   pub so : defined call tables.definitions ≡ Some definitions
   pub spells : SpellsTables held listing (with_definitions definitions tables)
   pub still : (relation : Name) (tid : Tid) → IsLive tables relation tid → get definitions.relations relation ≡ get tables.definitions.relations relation
+  pub linked : (name : Name) (parent : Option Tid) → HasChain tables name parent → get definitions.links name ≡ get tables.definitions.links name
 
 -- the relation of each tuple is defined
 abbrev AreDefined : Tables → Type 0
 AreDefined tables = (relation : Name) (tid : Tid) → IsLive tables relation tid → is_some (get tables.definitions.relations relation) ≡ true
 
-pub relisted : {held : Held} {tables : Tables} {old new : Listing} {call : Call} → SpellsTables held old tables → AreDefined tables → Relists old call new → ListingFits new → IsRelisted held call new tables
-relisted spells live (segment name number fresh least) fits = record { definitions = _; so = refl; spells = segment_made_spells spells number name least fits; still = λ q tid lives. refl }
-relisted {tables = tables} spells live (relation name in_segment fields at number within fresh least) fits =
+-- where no relation of a listed link has tuples, it has no chain
+no_chain : {held : Held} {tables : Tables} {listing : Listing} → SpellsTables held listing tables → LinksFit tables → (number : ℕ) (entry : LinkEntry) → link_at listing number ≡ Some entry → HasNoTuples listing tables.contents entry
+    → (parent : Option Tid) → HasChain tables entry.name parent → ⊥
+no_chain {tables = tables} {listing = listing} spells links number entry at none parent there =
+    let held = some_of (content tables.contents (ChainItem entry.name parent)) there in
+    let of = links.chains entry.name parent held.0 held.1 in
+    let so = listed_link spells.listed number entry at in
+    let same : of.definition ≡ link_definition listing entry so.0 = same_Some _ _ (sym of.defined ∙ spells.defines.paths.links number entry so.0 so.1) in
+    let role : has_role entry.child (Some entry) ≡ true = rw (eq-eqb entry.child entry.child refl) refl in
+    member so.0.name (none_counted tables.contents so.0.name (none entry.child so.0 role so.1.within)) of.tids of.some
+    (subst (λ (d : LinkDef). All (λ tid. is_there tables.contents d.child tid ≡ true) of.tids) same of.members)
+  where
+    member : (name : Name) → ((tid : Tid) → content tables.contents (TupleItem name tid) ≡ None) → (tids : List Tid) → 1 ≤ length tids → All (λ tid. is_there tables.contents name tid ≡ true) tids → ⊥
+    member name absent [] some members = omega (arith, some)
+    member name absent (tid ∷ tids) some members = true≢false (sym (members 0 tid (omega arith)) ∙ ap is_some (absent tid))
+
+-- a link that has a chain is defined
+chain_defined : {tables : Tables} → LinksFit tables → (name : Name) (parent : Option Tid) → HasChain tables name parent → is_some (get tables.definitions.links name) ≡ true
+chain_defined {tables = tables} links name parent there =
+    let held = some_of (content tables.contents (ChainItem name parent)) there in
+    ap is_some (links.chains name parent held.0 held.1).defined
+
+-- no relation of the link has tuples by the counts of the listing
+none_counted_in : {held : Held} {tables : Tables} {listing : Listing} → SpellsTables held listing tables → (entry : LinkEntry) → AreEmpty listing entry → HasNoTuples listing tables.contents entry
+none_counted_in spells entry none number its role at = spells.counts number its at ∙ none number its role at
+
+pub relisted : {held : Held} {tables : Tables} {old new : Listing} {call : Call} → SpellsTables held old tables → AreDefined tables → LinksFit tables → Relists old call new → ListingFits new → IsRelisted held call new tables
+relisted spells live links (segment name number fresh least) fits = record {
+  definitions = _;
+  so = refl;
+  spells = segment_made_spells spells number name least fits;
+  still = λ q tid lives. refl;
+  linked = λ q parent there. refl;
+}
+relisted {tables = tables} spells live links (relation name in_segment fields at number within fresh least) fits =
     let new = relation_unnamed spells.listed spells.defines name fresh in
     record {
       definitions = _;
@@ -71,14 +113,16 @@ relisted {tables = tables} spells live (relation name in_segment fields at numbe
       spells = relation_made_spells spells number (entry_of name at fields) (live name) in_segment least fits within refl new;
       still = λ q tid lives. made_other tables.definitions.relations name (relation_def in_segment fields) q (λ same.
           true≢false (sym (live q tid lives) ∙ ap (λ (n : Name). is_some (get tables.definitions.relations n)) same ∙ new));
+      linked = λ q parent there. refl;
     }
-relisted spells live (drop_segment name number at none) fits = record {
+relisted spells live links (drop_segment name number at none) fits = record {
   definitions = _;
   so = refl;
   spells = segment_gone_spells spells number name at (λ k r is within. none (record { number = k; relation = r; at = is; within = within })) fits;
   still = λ q tid lives. refl;
+  linked = λ q parent there. refl;
 }
-relisted {tables = tables} spells live (drop_relation number entry at empty none) fits =
+relisted {tables = tables} spells live links (drop_relation number entry at empty none) fits =
     let no_tuples : tuple_count tables.contents entry.name ≡ 0 = spells.counts number entry at ∙ empty in
     record {
       definitions = _;
@@ -86,6 +130,28 @@ relisted {tables = tables} spells live (drop_relation number entry at empty none
       spells = relation_gone_spells spells number entry at no_tuples (λ k image is same. none (record { number = k; image = image; at = is; of = same })) fits;
       still = λ q tid lives. gone_other tables.definitions.relations entry.name q (λ same.
           true≢false (sym lives ∙ ap is_some (ap (λ (n : Name). content tables.contents (TupleItem n tid)) same ∙ none_counted tables.contents entry.name no_tuples tid)));
+      linked = λ q parent there. refl;
+    }
+relisted {tables = tables} {old = listed_old} spells live links (link name parent child number its at fresh least none) fits =
+    let entry : LinkEntry = link_entry name parent child in
+    let new = link_unnamed spells.listed spells.defines name fresh in
+    record {
+      definitions = _;
+      so = refl;
+      spells = link_made_spells spells number least.low (link_high least spells.listed) (link_free least) entry its at refl refl (none_counted_in spells entry none) fits;
+      still = λ q tid lives. refl;
+      linked = λ q above there. made_other tables.definitions.links name (link_definition listed_old entry its) q (λ same.
+          true≢false (sym (chain_defined links q above there) ∙ ap (λ (n : Name). is_some (get tables.definitions.links n)) same ∙ new));
+    }
+relisted {tables = tables} spells live links (drop_link number entry at empty_now) fits =
+    let none = none_counted_in spells entry empty_now in
+    record {
+      definitions = _;
+      so = refl;
+      spells = link_gone_spells spells number entry at links none fits;
+      still = λ q tid lives. refl;
+      linked = λ q parent there. gone_other tables.definitions.links entry.name q (λ same.
+          no_chain spells links number entry at none parent (subst (λ (n : Name). HasChain tables n parent) same there));
     }
 
 -- ---- where an image is listed, the pages spell tables
@@ -105,6 +171,8 @@ images_kept (segment name number fresh least) = refl
 images_kept (relation name in_segment fields at number within fresh least) = refl
 images_kept (drop_segment name number at none) = refl
 images_kept (drop_relation number entry at live none) = refl
+images_kept (link name parent child number its at fresh least none) = refl
+images_kept (drop_link number entry at none) = refl
 
 -- each of them is one of the relation that it was one of
 abbrev KeepRelations : Listing → Listing → Type 0
@@ -116,9 +184,27 @@ nodes_relisted {old = old} slots images keeps nodes number image its listed =
     let at : image_at old number ≡ Some image = ap (λ (l : List (Option ImageEntry)). numbered l number) (sym images) ∙ listed.at in
     nodes number image its (record { at = at; within = sym (keeps number image at) ∙ listed.within })
 
+-- the chains are such as links have still
+links_relisted : {held : Held} {call : Call} {listing : Listing} {tables : Tables} (now : IsRelisted held call listing tables) → LinksFit tables → LinksFit (with_definitions now.definitions tables)
+links_relisted now links = record {
+  chains = λ name parent held at.
+      let of = links.chains name parent held at in
+      record {
+        definition = of.definition;
+        tids = of.tids;
+        defined = now.linked name parent (ap is_some at) ∙ of.defined;
+        is = of.is;
+        some = of.some;
+        members = of.members;
+        once = of.once;
+        under = of.under;
+      };
+  alone = links.alone;
+}
+
 tables_relisted : {pages : PagesView} {old new : CatalogView} {call : Call} → Relists old.listing call new.listing → (ListingFits old.listing → ListingFits new.listing) → KeepRelations old.listing new.listing → HasTables (both pages old) → HasTables (both pages new)
 tables_relisted {pages = pages} relists fits keeps has =
-    let now = relisted has.spells (tuples_defined has.tuples) relists (fits has.spells.listed) in
+    let now = relisted has.spells (tuples_defined has.tuples) has.links relists (fits has.spells.listed) in
     record {
       tables = with_definitions now.definitions has.tables;
       spells = now.spells;
@@ -133,15 +219,9 @@ tables_relisted {pages = pages} relists fits keeps has =
           };
       tids = has.tids;
       few = has.few;
+      links = links_relisted now has.links;
       nodes = nodes_relisted pages.slots (images_kept relists) keeps has.nodes;
     }
-
--- and so are the links
-links_kept : {old new : Listing} {call : Call} → Relists old call new → new.links ≡ old.links
-links_kept (segment name number fresh least) = refl
-links_kept (relation name in_segment fields at number within fresh least) = refl
-links_kept (drop_segment name number at none) = refl
-links_kept (drop_relation number entry at live none) = refl
 
 -- ---- the session
 
@@ -200,7 +280,6 @@ module _ {S : Type 0} (pages_view : S → PagesView) {call : Call} {old new : Se
       system = ready.store.system;
       pending_places = as_many ready.store.pending_places;
       settled_now = ready.store.settled_now;
-      no_links = links_kept redefines.relists ∙ ready.store.no_links;
       heaps = ready.store.heaps;
       tables = λ told. ∥∥₁_map (ready.store.tables told) (tables_relisted redefines.relists redefines.fits redefines.imaged);
     };
@@ -224,7 +303,7 @@ module _ {S : Type 0} (pages_view : S → PagesView) {call : Call} {old new : Se
     fits_new = redefines.fits spells.listed
 
     now_relisted : IsRelisted before.store.pages.held call new.store.catalog.listing state.base
-    now_relisted = relisted spells (live_defined (kept_fit state kept).0) redefines.relists fits_new
+    now_relisted = relisted spells (live_defined (kept_fit state kept).0) (kept_fit state kept).0.links redefines.relists fits_new
 
     -- a page that isn't to be written is spelled as it was
     written : AreWritten before.store.pages.held new.store.catalog
@@ -236,7 +315,7 @@ module _ {S : Type 0} (pages_view : S → PagesView) {call : Call} {old new : Se
           ))
       | inr other ↦
           let was = shows.store.written page low (λ pending. not (ap (λ (l : List Bool). get_or l page false) redefines.lists.pending ∙ get_or-set_other old.store.catalog.pending redefines.page page true false other ∙ pending)) in
-          was ∙ ap Some (sym (redefines.others page other))
+          was ∙ ap Some (sym (redefines.others page low other))
     ]
 
     size_same : state.size ≡ size_of before.store.root

@@ -1,9 +1,8 @@
 -- A scan of an image that is to be opened: what it is refused for, and where it starts.
 use Rattle.std.proofs.Common.{◌≡◌, ℕ, List, [], ◌∷◌, refl, sym, ◌∙◌, ap}
 use Rattle.std.specs.Prelude.{Option, Some, None, is_some, option_map}
-use Rattle.std.proofs.lemmas.Bool.{false_from_ne_true}
 use Rattle.std.proofs.lemmas.Option.{none-some, same_Some}
-use Rattle.rss_base.specs.Listings.{Listing, image_at, relation_at, ImageFits, IsNumberOf, IsUnlisted}
+use Rattle.rss_base.specs.Listings.{Listing, image_at, relation_at, ImageFits, IsNumberOf}
 use Rattle.rss_base.specs.TupleTypes.{misfit}
 use Rattle.rss_base.specs.declared.name.Name.{Name}
 use Rattle.rss_base.specs.declared.value.Value.{Value}
@@ -18,7 +17,7 @@ use Rattle.rss_model.specs.Refusals.{image_of, unless_key_fits}
 use Rattle.rss_model.specs.Steps.{first_of, unless_open}
 use Rattle.rss_model.specs.Store.{IsListedImage, image_definition}
 use Rattle.rss_model.specs.Tables.{ImageDef}
-use Rattle.rss_model.proofs.Tests.{goes_on, refuses_at, passes_unless, refuses_unless}
+use Rattle.rss_model.proofs.Tests.{goes_on, passes_unless}
 use Rattle.rss_catalog.proofs.Numbered.{numbered_map}
 use Rattle.rss_entries.specs.Seeking.{kinds_in}
 use Rattle.rss_entries.proofs.Lists.{kinds_listed}
@@ -55,11 +54,6 @@ one_listed {listing = listing} {image = image} {other = other} at within listed 
 -- ---- what the machine says of it
 
 module _ {view : SessionView} {state : State} (shows : Shows view state) (t : ℕ) (name : Name) (from : Option (List Value)) (opened : unless_open state t ≡ None) where
-  -- there is none
-  pub image_undefined : IsUnlisted ImageKind view.store.catalog.listing name → image_admission state t name from ≡ Some (NoSuch ImageKind)
-  image_undefined unlisted = goes_on _ opened ∙ refuses_at _ (refuses_unless (NoSuch ImageKind) (false_from_ne_true (is_some (image_of state name)) (λ there.
-      let has = shows.store.spells.defines.paths.only_images name there in unlisted has.0 has.1)))
-
   -- there is one
   module _ (number : ℕ) (is : IsNumberOf ImageKind view.store.catalog.listing name number) where
     abbrev here : HasImageEntry view.store.catalog.listing name number

@@ -1,9 +1,11 @@
--- That a change of a tuple finds room, and takes two home or overflow pages at most.
+-- That a change finds room, and takes two home or overflow pages at most.
 use Rattle.std.proofs.Common.{◌≡◌, ℕ, ◌+◌, ◌≤◌, Bool, true, false, if◌then◌else◌, ◌==◌, refl, sym, ap, arith}
 use Rattle.std.specs.Prelude.{Some}
 use Rattle.std.proofs.lemmas.Bool.{eq-eqb, eqb-true}
 use Rattle.rss_base.specs.Listings.{Listing}
 use Rattle.rss_base.specs.Paged.{mapped_of, mapped_pages}
+use Rattle.rss_base.specs.declared.change.Change as told
+use Rattle.rss_base.specs.declared.change.Change.TheVariants.{Insert, Delete, Update, Connect, Disconnect}
 use Rattle.rss_base.specs.declared.key.Space.TheVariants.{Image}
 use Rattle.rss_model.specs.Machine.{State}
 use Rattle.rss_model.specs.Spares.{page_counts}
@@ -11,9 +13,10 @@ use Rattle.rss_model.proofs.ImageRooms.{bound_rises}
 use Rattle.rss_model.proofs.Sparing.{spare_for_next}
 use Rattle.rss_model.proofs.StorePages.{pages_split}
 use Rattle.rss_entries.proofs.Rooms.{room_within}
-use Rattle.rss_access.specs.Changes.{HasRoom, Takes}
+use Rattle.rss_access.specs.Changes.{HasRoom, HasRoomFor, Takes}
 use Rattle.rss_store.specs.Changing.{access}
 use Rattle.rss_store.specs.Stores.{StoreView, IsReady as IsStoreReady}
+use Rattle.rss_session.specs.Changes.{relation_told}
 use Rattle.rss_session.specs.Sessions.{SessionView, most_in, IsReady, sums_in}
 use Rattle.rss_session.specs.Sessions as sessions
 use Rattle.rss_session.specs.Shown.{Shows}
@@ -33,9 +36,9 @@ within_with number n live most few = by (n == number) refl
         omega (arith, more, few)
     by false is = omega (arith, few, with_more (Some number) most n)
 
--- a change that goes on finds room
-pub room_next : {view : SessionView} {state : State} {t size : ℕ} (number : ℕ) → IsReady view → Goes view t (Some number) size → Shows view state → HasRoom (access view.store) number
-room_next {view = view} {state = state} number ready goes shows =
+-- one of a relation's tuples that goes on finds room
+room_more : {view : SessionView} {state : State} {t size : ℕ} (number : ℕ) → IsReady view → Goes view t (Some number) size → Shows view state → HasRoom (access view.store) number
+room_more {view = view} {state = state} number ready goes shows =
     let listing : Listing = view.store.catalog.listing in
     let rises = bound_rises listing (most_in view) (most_with (Some number) (most_in view)) (λ other relation at. with_more (Some number) (most_in view) other) in
     let spare = spare_for_next (sessions.counts view) (images_with view (Some number)) (sums_in view.opened).p (page_counts view.store.pages) (omega (arith, goes.room, ready.store.size)) ready.pages (omega (arith, ready.saved, rises)) in
@@ -43,6 +46,14 @@ room_next {view = view} {state = state} number ready goes shows =
     within_with number n relation.live (most_in view)
     (omega (arith, shows.store.spells.counts n relation at, shows.counted.rooms.metered.tuples relation.name, most_counted shows.counted (few_slots ready shows) n relation at))) in
     omega (arith, spare, within)
+
+-- and so does any change that goes on
+pub room_next : {view : SessionView} {state : State} {t size : ℕ} (told_change : told.Change) → IsReady view → Goes view t (relation_told told_change) size → Shows view state → HasRoomFor (access view.store) told_change
+room_next (Insert relation tid values) ready goes shows = room_more relation ready goes shows
+room_next (Delete relation tid values) ready goes shows = room_more relation ready goes shows
+room_next (Update relation tid was next) ready goes shows = room_more relation ready goes shows
+room_next (Connect link parent child left) ready goes shows = tt
+room_next (Disconnect link parent child left) ready goes shows = tt
 
 -- beside the pages of images, two more are there at most
 pub mapped_two : (old new : StoreView) → IsStoreReady old → IsStoreReady new → Takes 2 old.pages new.pages

@@ -1,39 +1,22 @@
--- That the log tells of each change that may be taken back, as one of a tuple.
-use Rattle.std.proofs.Common.{◌≡◌, ℕ, zero, suc, ◌+◌, ◌<◌, List, [], ◌∷◌, ◌++◌, length, get_or, refl, sym, ◌∙◌, ap, subst, arith}
-use Rattle.std.specs.Prelude.{map, replicate, Contains, Option, Some, None, option_map}
+-- That the log tells of each change that may be taken back.
+use Rattle.std.proofs.Common.{◌≡◌, ℕ, zero, suc, ◌+◌, ◌<◌, List, [], ◌∷◌, ◌++◌, length, get_or, ◌∙◌, ap, subst, arith}
+use Rattle.std.specs.Prelude.{Contains}
 use Rattle.std.proofs.lemmas.List.{map-append}
-use Rattle.rss_base.specs.Sizes.{links_most}
-use Rattle.rss_base.specs.Listings.{Listing, HasNoLinks}
 use Rattle.rss_base.specs.LogRecords.{BeginsWith, Placed, record_size}
-use Rattle.rss_base.specs.declared.link.LinkEntry.{LinkEntry}
 use Rattle.rss_base.specs.declared.log_record.LogRecord.TheVariants as records
 use Rattle.rss_log.specs.Logs.{HasRecords, bytes_from}
 use Rattle.rss_log.proofs.LogViews.{listed}
 use Rattle.rss_model.specs.EngineLogs.{EngineLog, all_logged}
 use Rattle.rss_model.specs.LogLaws.{TakesBack}
 use Rattle.rss_model.specs.Machine.{State}
-use Rattle.rss_model.specs.Meanings.{Logged, as_bytes, endless, SameDefinitions}
+use Rattle.rss_model.specs.Meanings.{Logged, as_bytes}
 use Rattle.rss_model.specs.Records.{Changed}
 use Rattle.rss_model.proofs.LogTurning.{changes_turn_back}
 use Rattle.rss_restart.specs.Walks.{TellsAt}
-use Rattle.rss_restart.proofs.Moving.{meant_tuple}
 use Rattle.rss_store.specs.Changing.{IsOwnAt}
 use Rattle.rss_store.specs.Shown.{HoldsLogged, ShowsBack}
 use Rattle.rss_store.specs.Stores.{StoreView}
 use Rattle.rss_store.proofs.Ways.{stands}
-
--- ---- listings of the same definitions
-
--- where the parts are those of nothing, nothing is there
-none_of_parts : {A B : Type 0} (part : A → B) (items : List (Option A)) (count : ℕ) → map (option_map part) items ≡ map (option_map part) (replicate count None) → items ≡ replicate count None
-none_of_parts part [] zero same = refl
-none_of_parts part [] (suc count) same = absurd (cc (same))
-none_of_parts part (item ∷ items) zero same = absurd (cc (same))
-none_of_parts {A = A} part (None ∷ items) (suc count) same = ap (λ (l : List (Option A)). None ∷ l) (none_of_parts part items count (cc (same)))
-none_of_parts part (Some item ∷ items) (suc count) same = absurd (cc (same))
-
-links_too : {one other : Listing} → SameDefinitions one other → HasNoLinks other → HasNoLinks one
-links_too {one = one} {other = other} same none = none_of_parts endless one.links links_most (sym same.links ∙ ap (λ (l : List (Option LinkEntry)). map (option_map endless) l) none)
 
 -- ---- a record that is listed begins at its position
 
@@ -65,5 +48,4 @@ tells_back view state t n position own way =
       by = t;
       rest = _;
       begins = begins_there (record { at = position; told = records.Change t back.told_change; is = Changed back.change }) shown.logged back.there;
-      tuple = meant_tuple shown.stored.listing back.told_change back.change (links_too shown.definitions shown.spells.no_links) back.told.means;
     }

@@ -5,7 +5,7 @@ use Rattle.std.specs.FinMap.{empty}
 use Rattle.std.proofs.lemmas.List.{length-set}
 use Rattle.rss_base.specs.DiskRule.{IsTold}
 use Rattle.rss_base.specs.Faults.{Rises}
-use Rattle.rss_base.specs.Listings.{Listing, HasNoLinks}
+use Rattle.rss_base.specs.Listings.{Listing}
 use Rattle.rss_base.specs.Paged.{Backing, Fixed, HasFixed, page_key}
 use Rattle.rss_base.specs.Sizes.{log_pages_least, system_pages}
 use Rattle.rss_base.specs.Steps.{PagesView, PagesStep, pages_in}
@@ -96,8 +96,8 @@ module _ (old : SessionView) {pages : PagesView} {segment asks outs : ℕ} (step
   }
 
   -- the store may go on, where the pages spell tables
-  pub store_touched : IsStoreReady old.store → length catalog.pending ≡ system_pages → HasNoLinks catalog.listing → CanAlter (both pages catalog) → IsStoreReady (with_tables pages catalog old).store
-  store_touched ready places links can = record {
+  pub store_touched : IsStoreReady old.store → length catalog.pending ≡ system_pages → CanAlter (both pages catalog) → IsStoreReady (with_tables pages catalog old).store
+  store_touched ready places can = record {
     number_low = ready.number_low;
     number_high = ready.number_high;
     formed = ready.formed;
@@ -108,7 +108,6 @@ module _ (old : SessionView) {pages : PagesView} {segment asks outs : ℕ} (step
     system = λ page low. step.mapped_off (page_key 0 System page) (λ touched. absurd (cc (ap (λ (k : PageKey). k.space) touched))) ∙ ready.system page low;
     pending_places = places;
     settled_now = step.passes.leaves.stays_settled ready.settled_now;
-    no_links = links;
     heaps = can.heaps;
     tables = can.tables;
   }

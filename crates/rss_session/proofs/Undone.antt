@@ -5,6 +5,8 @@ use Rattle.std.proofs.lemmas.Bool.{eq-eqb, eqb-true}
 use Rattle.std.proofs.lemmas.Bool.Decides.{nat_tests}
 use Rattle.std.proofs.lemmas.List.{length-take}
 use Rattle.std.proofs.lemmas.List.Sums.{sum_by-cons, sum_by-append}
+use Rattle.rss_base.specs.declared.change.Change as told
+use Rattle.rss_base.specs.declared.change.Change.TheVariants.{Insert, Delete, Update, Connect, Disconnect}
 use Rattle.rss_base.specs.declared.item.Item.{Item}
 use Rattle.rss_base.specs.declared.item.Item.TheVariants.{Segment, Relation, Tuple, Chain, Key}
 use Rattle.rss_base.specs.declared.name.Name.{Name}
@@ -29,7 +31,7 @@ use Rattle.rss_trans.specs.Told.{IsNumbered, TellsSince}
 use Rattle.rss_trans.proofs.Summing.{count_any, in_relation}
 use Rattle.rss_trans.proofs.Told.{taken_tells, recounted_tells, same_names}
 use Rattle.rss_entries.proofs.Rooms.{room_within}
-use Rattle.rss_access.specs.Changes.{HasRoom, number_told}
+use Rattle.rss_access.specs.Changes.{HasRoom, HasRoomFor}
 use Rattle.rss_store.specs.Changing.{access, IsOwnAt}
 use Rattle.rss_store.specs.Changing.{TakesBackOne as StoreTakesBackOne}
 use Rattle.rss_store.specs.Shown.{ShowsWith}
@@ -42,8 +44,8 @@ use Rattle.rss_session.specs.Calls.{HasNewest}
 use Rattle.rss_session.proofs.Fewer.{changers, newest_at, put_here, put_p, put_q, put_opened, put_placed, taken_placed}
 use Rattle.rss_session.proofs.Sums.{gone_sum, get_open}
 use Rattle.rss_session.proofs.Bounds.{bound_still, session_of}
-use Rattle.rss_session.proofs.Changed.{one_told, numbered_told}
-use Rattle.rss_session.proofs.ToldBack.{turned_back, tells_back}
+use Rattle.rss_session.proofs.Changed.{numbered_told}
+use Rattle.rss_session.proofs.ToldBack.{turned_back}
 use Rattle.rss_session.proofs.Traffic.{most_counted, each_still, images_still}
 
 -- the changes of one transaction are among all
@@ -84,9 +86,6 @@ module _ (view : SessionView) (state : State) (t n position : ℕ) (ready : IsRe
   abbrev its : TakesBack shown.stored.listing shown.log state t n position
   its = turned_back view.store state t n position own back.store
 
-  abbrev number : ℕ
-  number = number_told its.told_change
-
   few_slots : state.size.slots < 2 ^ 32
   few_slots = omega (
     arith,
@@ -95,12 +94,11 @@ module _ (view : SessionView) (state : State) (t n position : ℕ) (ready : IsRe
     ready.store.formed.slots_most,
   )
 
-  its_number : IsNumbered view.store.catalog.listing its.change.item (Some number)
-  its_number =
-      subst (IsNumbered view.store.catalog.listing its.change.item) (one_told its.told_change (tells_back view.store state t n position own back.store).tuple)
-      (numbered_too shown.definitions its.change.item (relation_told its.told_change) (numbered_told shown.stored.listing its.change.by its.change its.told_change its.told.tells its.told.means))
+  -- where it is one of a relation's tuples, this is the relation
+  its_number : IsNumbered view.store.catalog.listing its.change.item (relation_told its.told_change)
+  its_number = numbered_too shown.definitions its.change.item (relation_told its.told_change) (numbered_told shown.stored.listing its.change.by its.change its.told_change its.told.tells its.told.means)
 
-  module _ (m : ℕ) (relation : RelationEntry) (at : relation_at view.store.catalog.listing m ≡ Some relation) where
+  module _ (number : ℕ) (is_one : IsNumbered view.store.catalog.listing its.change.item (Some number)) (m : ℕ) (relation : RelationEntry) (at : relation_at view.store.catalog.listing m ≡ Some relation) where
     -- the tuples that are there, with the changes that may still be undone
     all_there : tuple_count (after state.base.contents (kept_to maker t (n + 1) state.changes)) relation.name + changes_of (kept_to maker t (n + 1) state.changes) relation.name ≤ most_in view m
     all_there = omega (
@@ -112,16 +110,26 @@ module _ (view : SessionView) (state : State) (t n position : ℕ) (ready : IsRe
     one_more : (b : Bool) → (m == number) ≡ b → (if b then relation.live + 1 else relation.live) ≤ most_in view m
     one_more true is =
         let named = number_of view.store.catalog.listing m relation at in
-        let of = in_relation view.store.catalog.listing shown.spells.listed.relations_once relation.name m named its.change.item (Some number) its_number in
+        let of = in_relation view.store.catalog.listing shown.spells.listed.relations_once relation.name m named its.change.item (Some number) is_one in
         let same : (number == m) ≡ true = eq-eqb number m (sym (eqb-true m number is)) in
         omega (arith, all_there, shown.spells.counts m relation at, one_there state t n its.change relation.name its.last (sym of ∙ same))
     one_more false is = omega (arith, all_there, shown.spells.counts m relation at)
 
-  pub room_back : HasRoom (access view.store) number
-  room_back =
+  room_of : (number : ℕ) → IsNumbered view.store.catalog.listing its.change.item (Some number) → HasRoom (access view.store) number
+  room_of number is_one =
       let spare = spare_for_all (sessions.counts view) (sums_in view.opened).p (page_counts view.store.pages) ready.room ready.pages ready.saved in
-      let within = room_within view.store.catalog.listing number (most_in view) (λ m relation at. one_more m relation at (m == number) refl) in
+      let within = room_within view.store.catalog.listing number (most_in view) (λ m relation at. one_more number is_one m relation at (m == number) refl) in
       omega (arith, spare, within, listed_some view.opened t opened, some)
+
+  room_for : (told_change : told.Change) → IsNumbered view.store.catalog.listing its.change.item (relation_told told_change) → HasRoomFor (access view.store) told_change
+  room_for (Insert relation tid values) is_one = room_of relation is_one
+  room_for (Delete relation tid values) is_one = room_of relation is_one
+  room_for (Update relation tid was next) is_one = room_of relation is_one
+  room_for (Connect link parent child left) is_one = tt
+  room_for (Disconnect link parent child left) is_one = tt
+
+  pub room_back : HasRoomFor (access view.store) its.told_change
+  room_back = room_for its.told_change its_number
 
 -- the counts of fewer changes
 pub fewer_changers : (some more : ℕ) → some ≤ more → changers some ≤ changers more

@@ -1,17 +1,18 @@
 -- What a call is refused for by a test that looks neither at pages nor at room.
-use Rattle.std.specs.Prelude.{◌≡◌, ℕ, List, [], ◌∷◌, Option, Some, None, is_some, Result, Ok, Err}
+use Rattle.std.specs.Prelude.{◌≡◌, ℕ, Bool, List, [], ◌∷◌, Option, Some, None, is_some, Result, Ok, Err}
 use Rattle.rss_base.specs.DiskRule.{IsTold}
-use Rattle.rss_base.specs.Listings.{Listing, IsNumberOf}
+use Rattle.rss_base.specs.Listings.{Listing, IsNumberOf, link_at}
 use Rattle.rss_base.specs.declared.item.Item.{Item}
 use Rattle.rss_base.specs.declared.item.Item.TheVariants.{Segment as SegmentItem, Relation as RelationItem, Tuple as TupleItem, Chain as ChainItem, Key as KeyItem}
+use Rattle.rss_base.specs.declared.link.LinkEntry.{LinkEntry}
 use Rattle.rss_base.specs.declared.name.Name.{Name}
-use Rattle.rss_base.specs.declared.refusal.Kind.TheVariants.{Segment as SegmentKind, Relation as RelationKind, Image as ImageKind}
+use Rattle.rss_base.specs.declared.refusal.Kind.TheVariants.{Segment as SegmentKind, Relation as RelationKind, Image as ImageKind, Link as LinkKind}
 use Rattle.rss_base.specs.declared.refusal.Refusal.{Refusal}
 use Rattle.rss_base.specs.declared.refusal.Refusal.TheVariants.{NoSuch}
 use Rattle.rss_base.specs.declared.value.Value.{Value}
 use Rattle.rss_model.specs.Defining.{refused_unless}
 use Rattle.rss_model.specs.Machine.{State}
-use Rattle.rss_model.specs.Refusals.{image_of, unless_key_fits}
+use Rattle.rss_model.specs.Refusals.{image_of, unless_key_fits, link_of, unless_link_form}
 use Rattle.rss_model.specs.ReplyText.{IsShort}
 use Rattle.rss_model.specs.Steps.{first_of, unless_open}
 use Rattle.rss_session.specs.Sessions.{SessionView}
@@ -22,6 +23,20 @@ abbrev pub image_admission : State → ℕ → Name → Option (List Value) → 
 image_admission state t image from =
     first_of (unless_open state t ∷ refused_unless (is_some (image_of state image)) (NoSuch ImageKind)
     ∷ unless_key_fits state (image_of state image) from ∷ [])
+
+-- there is the link; and where it is told whether a parent is given, one is exactly where the link has parents
+abbrev pub unless_link : State → Name → Option Bool → Option Refusal
+unless_link state link None = refused_unless (is_some (link_of state link)) (NoSuch LinkKind)
+unless_link state link (Some given) = unless_link_form state link given
+
+-- the tests that a call on a link begins with
+abbrev pub link_admission : State → ℕ → Name → Option Bool → Option Refusal
+link_admission state t link given = first_of (unless_open state t ∷ unless_link state link given ∷ [])
+
+-- the link of this number has parents, or it hasn't
+abbrev pub HasParents : Listing → ℕ → Bool → Type 0
+HasParents listing number has =
+    (link : LinkEntry) → link_at listing number ≡ Some link → is_some link.parent ≡ has
 
 -- on a device that tells its contents the test says this in each state in which the session may be
 abbrev pub Says : SessionView → (State → Option Refusal) → Option Refusal → Type 0

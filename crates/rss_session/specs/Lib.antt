@@ -14,3 +14,4 @@ pub mod Uniques
 pub mod Planning
 pub mod Filling
 pub mod Taking
+pub mod Linking

@@ -1,7 +1,7 @@
 -- What a look at tuples finds, and what it passes on.
 use Rattle.std.specs.Prelude.{◌≡◌, ℕ, Bool, true, false, List, [], Option, Some, None, option_map, IfSome, Result, Ok, Err, OnOk, Contains}
 use Rattle.rss_base.specs.DiskRule.{IsTold}
-use Rattle.rss_base.specs.Listings.{relation_at}
+use Rattle.rss_base.specs.Listings.{Listing, relation_at}
 use Rattle.rss_base.specs.Steps.{AreInMemory, StaysIdle}
 use Rattle.rss_base.specs.TupleTypes.{kinds}
 use Rattle.rss_base.specs.declared.fault.PageFault.{PageFault}
@@ -64,15 +64,15 @@ pub record IsRelationIn (view : SessionView) (segment number : ℕ) (relation : 
   pub within : relation.segment ≡ segment
 
 -- a tuple of these values, whose body this is
-pub record HasTuple (state : State) (number : ℕ) (relation : RelationEntry) (tid : Tid) (body : List ℕ) : Type 0 where
+pub record HasTuple (listing : Listing) (state : State) (number : ℕ) (relation : RelationEntry) (tid : Tid) (body : List ℕ) : Type 0 where
   pub values : List Value
-  pub spelled : IsBodyOf number (kinds relation.fields) values body
+  pub spelled : IsBodyOf listing number (kinds relation.fields) values body
   pub holds : content (now state).contents (Tuple relation.name tid) ≡ Some (Values values)
 
 -- Whether there is such a tuple, in each state.
 pub record FindsTuple (view : SessionView) (segment number : ℕ) (tid : Tid) (there : Bool) (body : List ℕ) : Type 0 where
   pub some : there ≡ true → (state : State) (relation : RelationEntry) → Kept state → Shows view state
-      → IsRelationIn view segment number relation → HasTuple state number relation tid body
+      → IsRelationIn view segment number relation → HasTuple view.store.catalog.listing state number relation tid body
   pub none : there ≡ false → (state : State) (relation : RelationEntry) → Kept state → Shows view state
       → IsRelationIn view segment number relation
       → content (now state).contents (Tuple relation.name tid) ≡ None
@@ -83,7 +83,7 @@ FindsNextTuple view segment number after found body =
     (state : State) (relation : RelationEntry) → Kept state → Shows view state
     → IsRelationIn view segment number relation
     → (next_along (now state) (RelationPath relation.name) (option_map (entry []) after) ≡ option_map (entry []) found)
-    × IfSome found (λ tid. HasTuple state number relation tid body)
+    × IfSome found (λ tid. HasTuple view.store.catalog.listing state number relation tid body)
 
 -- no other transaction holds a tuple of the relation's segment with this identifier
 abbrev pub IsAloneAt : State → ℕ → Name → Tid → Type 0

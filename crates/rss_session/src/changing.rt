@@ -1,4 +1,4 @@
-// Changes of tuples.
+// Changes of tuples and of chains.
 ghost use Rattle.std.specs.Prelude.{◌≡◌, ◌+◌, ◌≤◌, ℕ, length, true, false, Option, Ok, Err, IfErr, OnOk, OnErr};
 ghost use Rattle.rss_base.specs.DiskRule.{IsTold};
 ghost use Rattle.rss_base.specs.LogRecords.{record_size, longest_record, IsChangeBounded};
@@ -7,7 +7,6 @@ ghost use Rattle.rss_base.specs.declared.log_record.LogRecord.TheVariants as rec
 ghost use Rattle.rss_base.specs.declared.fault.PageFault.TheVariants.{Damaged};
 ghost use Rattle.rss_base.specs.declared.place.Place.{Place as AnyPlace};
 ghost use Rattle.rss_trans.specs.Transactions.{is_open};
-ghost use Rattle.rss_access.specs.Changes.{IsTupleRecord};
 ghost use Rattle.rss_session.specs.Changes.{is_delete_told, relation_told};
 ghost use Rattle.rss_session.specs.Sessions.{IsReady, IsEarly};
 ghost use Rattle.rss_session.specs.Weighing.{weighed, RulesSo};
@@ -64,10 +63,10 @@ impl<S: Saving> Session<S> {
         self.open.reserve(transaction)
     }
 
-    /// Makes a change of a tuple, behind a checkpoint where the rules ask for one, as `weigh_change`
+    /// Makes a change of a tuple or of a chain, behind a checkpoint where the rules ask for one, as `weigh_change`
     /// says. It takes no memory but what `reserve` took.
     ///
-    /// Where the tuple isn't as the change tells it, which no device shows that tells its contents, the
+    /// Where the tuple or the chain isn't as the change tells it, which no device shows that tells its contents, the
     /// fault is `Damaged`.
     pub fn make(
         &mut self,
@@ -78,7 +77,6 @@ impl<S: Saving> Session<S> {
         requires ready { IsReady (view S.view self.old) }
         requires open { is_open (view S.view self.old).opened transaction ≡ true }
         requires place { 1 ≤ (view S.view self.old).opened.room transaction }
-        requires tuple { IsTupleRecord change }
         requires bounded { IsChangeBounded change }
         requires weighed { weighed (view S.view self.old) transaction (relation_told change)
             (record_size (records.Change transaction change)) ≡ Ok saves_first }
@@ -108,7 +106,6 @@ impl<S: Saving> Session<S> {
         requires ready { IsReady (view S.view self.old) }
         requires open { is_open (view S.view self.old).opened transaction ≡ true }
         requires place { 1 ≤ (view S.view self.old).opened.room transaction }
-        requires tuple { IsTupleRecord change }
         requires bounded { IsChangeBounded change }
         requires weighed { weighed (view S.view self.old) transaction (relation_told change)
             (record_size (records.Change transaction change)) ≡ Ok false }

@@ -79,12 +79,11 @@ impl<S: Saving> Session<S> {
         ensures are { IfOk result (λ entries.
             AreImageEntries (view S.view self.new) image.now entries.items) }
     {
-        let relation = self.store.catalog.relation(image.relation);
         let which = &image.fields[..usize::from(image.count)];
         entries_of(
             alloc,
             &mut self.store.tuples,
-            relation,
+            &self.store.catalog,
             image.relation,
             which,
         )

@@ -6,7 +6,6 @@
 mod images;
 
 ghost use Rattle.std.specs.Prelude.{◌≡◌, true};
-ghost use Rattle.rss_model.specs.Callers.{is_built};
 ghost use Rattle.rss_model.specs.Defining.{DefinesNames, LocksGranule};
 
 use crate::images::{Order, measure_image};
@@ -61,7 +60,6 @@ enum Measure {
 pub(crate) fn ask<E: Engine>(engine: &mut E, call: &Call) -> Result<Reply>
     requires names { DefinesNames call.now }
     requires granule { LocksGranule call.now }
-    requires built { is_built call.now ≡ true }
 {
     ensure!(engine.calls() < CALLS_MOST, "too many calls");
     match engine.call(call) {

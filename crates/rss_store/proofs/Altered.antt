@@ -1,11 +1,11 @@
--- What a change of a tuple leaves of a durable store, whatever is in its tables.
+-- What a change leaves of a durable store, whatever is in its tables.
 use Rattle.std.proofs.Common.{◌≡◌, true, refl, sym, ◌∙◌, ap, subst, arith}
 use Rattle.std.specs.Prelude.{Result, Ok, Err, IsErrAnd, OnOk}
 use Rattle.std.proofs.lemmas.Result.{err_from_is_err_and, on_ok_weaker}
 use Rattle.rss_base.specs.DiskRule.{IsTold}
 use Rattle.rss_base.specs.Paged.{Fixed, Backing, HasFixed}
 use Rattle.rss_base.specs.Layout.{IsWellFormed}
-use Rattle.rss_base.specs.Listings.{Listing, relation_at}
+use Rattle.rss_base.specs.Listings.{Listing}
 use Rattle.rss_base.specs.Steps.{PagesStep, AreCounted}
 use Rattle.rss_base.specs.declared.change.Change as told
 use Rattle.rss_base.specs.declared.fault.PageFault.{PageFault}
@@ -19,28 +19,29 @@ use Rattle.rss_model.specs.Store.{Stored}
 use Rattle.rss_model.proofs.Sparing.{takes_two}
 use Rattle.rss_model.proofs.StorePages.{pages_split}
 use Rattle.rss_catalog.specs.Catalogs.{HasSystemPages}
-use Rattle.rss_access.specs.Changes.{alter_cost, number_told, Makes}
+use Rattle.rss_access.specs.Changes.{alter_cost, Makes}
 use Rattle.rss_access.specs.Written.{content_of, AreWritten}
+use Rattle.rss_access.proofs.Relisting.{relists_same}
 use Rattle.rss_restart.specs.Restarting.{KeepsCatalog}
 use Rattle.rss_restart.proofs.Keeping.{keeps_itself, keeps_made}
 use Rattle.rss_restart.proofs.Leading.{content_told}
 use Rattle.rss_store.specs.Changing.{AltersPages, access}
 use Rattle.rss_store.specs.Shown.{LeavesStore}
 use Rattle.rss_store.specs.Stores.{StoreView, IsLogBehind, IsReady}
-use Rattle.rss_store.proofs.Definitions.{same_then, counts_same}
+use Rattle.rss_store.proofs.Definitions.{same_then}
 use Rattle.rss_store.proofs.Spelled.{system_kept}
 
 -- ---- which pages are touched
 
 module _ {T : Type 0} {change : told.Change} (old new : StoreView) {result : Result T PageFault} (makes : Makes change (access old) (access new) result) where
   content_step : PagesStep (content_of old.catalog.listing) (alter_cost old.pages.slots) (alter_cost old.pages.slots) old.pages new.pages
-  content_step = among (λ key is. content_told old.catalog.listing (relation_at old.catalog.listing (number_told change)) key is) makes.step
+  content_step = among (λ key is. content_told old.catalog.listing change key is) makes.step
 
   keeps : KeepsCatalog (access old) (access new)
   keeps = keeps_made (access old) (access new) content_step result makes
 
   same_definitions : OnOk result (SameDefinitions old.catalog.listing new.catalog.listing)
-  same_definitions = on_ok_weaker result (λ alters. counts_same alters.listed alters.counts) makes.alters
+  same_definitions = on_ok_weaker result (λ relists. relists_same relists) makes.relists
 
 -- ---- what a call passes on
 
@@ -123,7 +124,6 @@ module _ {T : Type 0} {change : told.Change} (old new : StoreView) {value : T} (
     system = system_made ready;
     pending_places = (keeps old new makes).places ∙ ready.pending_places;
     settled_now = makes.step.passes.leaves.stays_settled ready.settled_now;
-    no_links = (keeps old new makes).no_links ready.no_links;
     heaps = makes.still.heaps;
     tables = makes.still.tables;
   }
@@ -143,7 +143,7 @@ module _ {T : Type 0} {change : told.Change} (old new : StoreView) {value : T} (
     written_made ready written = (keeps old new makes).written told ready.pending_places written
 
   pub definitions_made : {listing : Listing} → SameDefinitions listing old.catalog.listing → SameDefinitions listing new.catalog.listing
-  definitions_made same = same_then same (counts_same makes.alters.listed makes.alters.counts)
+  definitions_made same = same_then same (relists_same makes.relists)
 
   -- two home or overflow pages more are mapped at most
   pub two_made : IsReady old → AreCounted new.pages → TakesTwo (page_counts old.pages) (page_counts new.pages)

@@ -156,9 +156,6 @@ module _ {stored : Stored} {view : StoreView} (read : IsReadFrom stored view) wh
   heap_read : heap_now view.pages ≡ (meter_of stored).heap
   heap_read = λ i. mapped_of (read.opened.mapped i) Home (read.opened.slots i) + mapped_of (read.opened.mapped i) Overflow (read.opened.slots i)
 
-  images_read : mapped_of view.pages.mapped Image view.pages.slots ≡ pages_of_space Image stored
-  images_read = λ i. mapped_of (read.opened.mapped i) Image (read.opened.slots i)
-
   images_saved : mapped_of (mapped_by view.pages.backing.shadow) Image view.pages.slots ≡ pages_of_space Image stored
   images_saved = λ i. mapped_of (mapped_by (read.opened.shadow i)) Image (read.opened.slots i)
 
@@ -278,7 +275,6 @@ module _ {T : Type 0} {old : StoreView} {pages : PagesView} {catalog : CatalogVi
     system = mid_system;
     pending_places = passes.keeps.places ∙ ready.pending_places;
     settled_now = passes.step.passes.leaves.stays_settled ready.settled_now;
-    no_links = passes.keeps.no_links ready.no_links;
     heaps = still.heaps;
     tables = still.tables;
   }

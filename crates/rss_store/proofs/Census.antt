@@ -62,13 +62,6 @@ module _ (counts : List ℕ) (rows : Rows) (tid : Tid) (seen : AreSeen counts ro
     right = λ number low high. seen.right number low high ∙ sym (same_count number body (ap (begins_with number) is));
   }
 
-  -- a number that no relation has
-  pub seen_beyond : (body : List ℕ) (first : ℕ) (rest : List ℕ) → body ≡ first ∷ rest → ((1 ≤ first) → first ≤ relations_most → ⊥) → AreSeen counts (rows ++ (tid, body) ∷ [])
-  seen_beyond body first rest is beyond = record {
-    places = seen.places;
-    right = λ number low high. seen.right number low high ∙ sym (same_count number body (ap (begins_with number) is ∙ ne_eqb first number (λ same. absurd (beyond (omega (arith, same)) (omega (arith, same))))));
-  }
-
   module _ (body : List ℕ) (first : ℕ) (rest : List ℕ) (is : body ≡ first ∷ rest) (first_low : 1 ≤ first) (first_high : first ≤ relations_most) where
     seen_more : (now : List ℕ) → now ≡ set counts (first - 1) (min (get_or counts (first - 1) 0 + 1) (2 ^ 32 - 1)) → AreSeen now (rows ++ (tid, body) ∷ [])
     seen_more now put = record {
@@ -91,14 +84,6 @@ module _ (counts : List ℕ) (rows : Rows) (tid : Tid) (seen : AreSeen counts ro
     pub seen_put : (from value : ℕ) → from ≡ first → value ≡ min (get_or counts (from - 1) 0 + 1) (2 ^ 32 - 1) → AreSeen (set counts (from - 1) value) (rows ++ (tid, body) ∷ [])
     seen_put from value number now = seen_more (set counts (from - 1) value)
         (λ i. set counts (number i - 1) ((now ∙ ap (λ (n : ℕ). min (get_or counts (n - 1) 0 + 1) (2 ^ 32 - 1)) number) i))
-
--- a number that is not one of a relation's has no relation
-pub beyond_unused : (listing : Listing) (number : ℕ) → length listing.relations ≡ relations_most → ((1 ≤ number) → number ≤ relations_most → ⊥) → relation_at listing number ≡ None
-beyond_unused listing number places beyond = by (relation_at listing number) refl
-  where
-    by : (found : Option RelationEntry) → relation_at listing number ≡ found → found ≡ None
-    by None at = refl
-    by (Some relation) at = let low = used_within listing number places (ap is_some at) in absurd (beyond low.0 low.1)
 
 -- no tuple was seen as yet
 pub seen_first : AreSeen (replicate 48 0) []

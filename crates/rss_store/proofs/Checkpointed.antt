@@ -358,7 +358,7 @@ module _ {view : StoreView} {marks : List (ℕ × ℕ)} {mid saved : PagesView} 
     saved_ready root number area settled pending =
         ready_now ready (subst IsWellFormed (sym root_is) (next_formed checkpoint (tail_of log) at_checkpoint refl)) (ap (λ (r : Root). r.slots) root_is) (ap (λ (r : Root). r.log_pages) root_is) root number area settled
         (subst (λ (r : Root). IsLogBehind r new.log) (sym root_is) (saved_behind checkpoint log.end (tail_of log) refl refl moved))
-        slots_last mapped_last log_pages_last pending listing can_last
+        slots_last mapped_last log_pages_last pending can_last
 
     -- as many pages are saved as are mapped: those of each space
     counted_pages : mapped_pages view.pages.slots view.pages.mapped ≡ heap_now view.pages + mapped_of view.pages.mapped Image view.pages.slots + system_pages

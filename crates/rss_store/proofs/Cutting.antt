@@ -31,7 +31,6 @@ ready_with ready behind = record {
   system = ready.system;
   pending_places = ready.pending_places;
   settled_now = ready.settled_now;
-  no_links = ready.no_links;
   heaps = ready.heaps;
   tables = ready.tables;
 }

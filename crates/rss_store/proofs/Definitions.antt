@@ -1,9 +1,9 @@
 -- Listings of the same definitions: what a record tells by one of them, it tells by the other.
-use Rattle.std.proofs.Common.{◌≡◌, ℕ, zero, suc, ◌-◌, List, [], ◌∷◌, get_or, refl, sym, ◌∙◌, ap, subst, arith}
-use Rattle.std.specs.Prelude.{map, Option, Some, None, is_some, option_map, unwrap_or, slice_set}
+use Rattle.std.proofs.Common.{◌≡◌, ℕ, zero, suc, List, [], ◌∷◌, get_or, refl, sym, ◌∙◌, ap, subst}
+use Rattle.std.specs.Prelude.{map, Option, Some, None, is_some, option_map, unwrap_or}
 use Rattle.std.proofs.lemmas.Option.{none-some, same_Some}
 use Rattle.rss_base.specs.TupleTypes.{kinds, Spells}
-use Rattle.rss_base.specs.Listings.{Listing, numbered, names_of, relation_at, image_at, link_at, with_relation, with_count}
+use Rattle.rss_base.specs.Listings.{Listing, numbered, names_of, relation_at, image_at, link_at, with_count}
 use Rattle.rss_base.specs.declared.name.Name.{Name}
 use Rattle.rss_base.specs.declared.tid.Tid.{Tid}
 use Rattle.rss_base.specs.declared.item.Item.TheVariants.{Tuple as TupleItem, Chain as ChainItem}
@@ -14,13 +14,11 @@ use Rattle.rss_base.specs.declared.relation.RelationEntry.{RelationEntry}
 use Rattle.rss_base.specs.declared.refusal.Kind.TheVariants.{Relation as RelationKind, Image as ImageKind, Link as LinkKind}
 use Rattle.rss_base.specs.declared.change.Change as told
 use Rattle.rss_base.specs.declared.change.Change.TheVariants.{Insert, Delete, Update, Connect, Disconnect}
-use Rattle.rss_catalog.specs.Catalogs.{CatalogView}
 use Rattle.rss_model.specs.Items.{Content}
 use Rattle.rss_model.specs.Changes.{Change}
 use Rattle.rss_model.specs.Meanings.{endless, rootless, SameDefinitions, nameless, item_told, TellsValues, TellsPlace, Means}
 use Rattle.rss_model.specs.LogLaws.{IsToldBy}
 use Rattle.rss_model.proofs.Listed.{at_place}
-use Rattle.rss_access.specs.Relisted.{Recounted}
 
 -- ---- lists of what has a number
 
@@ -52,12 +50,6 @@ mapped_twice {C = C} f g (Some a ∷ items) = ap (λ (l : List (Option C)). Some
 
 parts_same : {A B C : Type 0} (f : A → B) (g : B → C) (one other : List (Option A)) → map (option_map f) other ≡ map (option_map f) one → map (option_map (λ a. g (f a))) other ≡ map (option_map (λ a. g (f a))) one
 parts_same f g one other same = mapped_twice f g other ∙ ap (map (option_map g)) same ∙ sym (mapped_twice f g one)
-
--- one item is another in its place, with the same part
-set_same : {A B : Type 0} (f : A → B) (items : List (Option A)) (k : ℕ) (a b : A) → get_or items k None ≡ Some a → f b ≡ f a → map (option_map f) (slice_set items k (Some b)) ≡ map (option_map f) items
-set_same f [] k a b at same = refl
-set_same {B = B} f (item ∷ items) zero a b at same = ap (λ (o : Option B). o ∷ map (option_map f) items) (ap Some same ∙ ap (option_map f) (sym at))
-set_same {B = B} f (item ∷ items) (suc k) a b at same = ap (λ (l : List (Option B)). option_map f item ∷ l) (set_same f items k a b at same)
 
 -- ---- the same definitions
 
@@ -152,23 +144,3 @@ module _ {one other : Listing} (same : SameDefinitions one other) where
     means = means_same told_change change tells.means;
     spellable = tells.spellable;
   }
-
--- ---- another count
-
-relations_recounted : (listing : Listing) (number live : ℕ) (relation : RelationEntry) → relation_at listing number ≡ Some relation
-    → map (option_map (with_count 0)) (with_relation listing number (Some (with_count live relation))).relations ≡ map (option_map (with_count 0)) listing.relations
-relations_recounted listing zero live relation at = absurd (none-some relation at)
-relations_recounted listing (suc k) live relation at =
-    set_same (with_count 0) listing.relations (suc k - 1) relation (with_count live relation) (ap (λ (j : ℕ). get_or listing.relations j None) (less k) ∙ sym (at_place listing.relations k) ∙ at) refl
-  where
-    less : (k : ℕ) → suc k - 1 ≡ k
-    less k = omega arith
-
--- a relation that is counted anew
-pub counts_same : {number live : ℕ} {relation : RelationEntry} {old new : CatalogView} → relation_at old.listing number ≡ Some relation → Recounted number live relation old new → SameDefinitions old.listing new.listing
-counts_same {number = number} {live = live} {relation = relation} {old = old} at counted = record {
-  segments = counted.segments;
-  relations = ap (map (option_map (with_count 0))) counted.relations ∙ relations_recounted old.listing number live relation at;
-  images = counted.images;
-  links = ap (map (option_map endless)) counted.links;
-}

@@ -103,7 +103,7 @@ module _ {view : StoreView} {log : LogView} {t at : ℕ} (ready : IsReady view) 
   ended_ready {new = new} {next = next} is selected log_is catalog slots mapped log_pages can =
       ready_now ready (subst IsWellFormed (sym is) (grown_formed (tail_of log) refl)) (ap (λ (r : Root). r.slots) is) (ap (λ (r : Root). r.log_pages) is) selected.root selected.number selected.area selected.settled_now
       (subst (IsLogBehind next) (sym log_is) (subst (λ (r : Root). IsLogBehind r log) (sym is) (ended_behind log.end (tail_of log) refl refl)))
-      slots mapped log_pages (ap (λ (c : CatalogView). length c.pending) catalog ∙ ready.pending_places) (ap (λ (c : CatalogView). c.listing) catalog) can
+      slots mapped log_pages (ap (λ (c : CatalogView). length c.pending) catalog ∙ ready.pending_places) can
 
 -- ---- the next store
 

@@ -12,11 +12,12 @@ use Rattle.rss_base.specs.declared.name.Name.{Name}
 use Rattle.rss_base.specs.declared.tid.Tid.{Tid}
 use Rattle.rss_base.specs.declared.item.Item.{Item}
 use Rattle.rss_base.specs.declared.relation.RelationEntry.{RelationEntry}
+use Rattle.rss_base.specs.declared.link.LinkEntry.{LinkEntry}
 use Rattle.rss_base.specs.declared.key.Space.TheVariants.{Home, Overflow, Image, System}
 use Rattle.rss_base.specs.declared.key.PageKey.{PageKey}
 use Rattle.rss_base.specs.DiskRule.{Pages, page as page_at}
 use Rattle.rss_base.specs.Layout.{slots_at}
-use Rattle.rss_base.specs.Listings.{ListingFits, IsPlain, HoldsListing, numbered, segment_at, relation_at, no_listing, padded, segment_spelled, relation_spelled, catalog_page}
+use Rattle.rss_base.specs.Listings.{ListingFits, IsPlain, HoldsListing, numbered, segment_at, relation_at, link_at, no_listing, padded, segment_spelled, relation_spelled, catalog_page}
 use Rattle.rss_base.specs.PageMap.{page_count}
 use Rattle.rss_base.specs.Paged.{Held, page_key}
 use Rattle.rss_base.specs.Sizes.{zero_page}
@@ -33,7 +34,7 @@ use Rattle.rss_model.specs.Store.{no_tables, SpellsTables, first_stored as store
 use Rattle.rss_catalog.proofs.Plain.{plain_paths, zeros_past}
 use Rattle.rss_model.proofs.FirstLog.{first_log}
 use Rattle.rss_model.proofs.Fitting.{no_tables_fit}
-use Rattle.rss_model.proofs.PlainStores.{spelled_contents, plain_images, plain_nodes}
+use Rattle.rss_model.proofs.PlainStores.{plain_images, plain_nodes}
 use Rattle.rss_model.proofs.Listed.{at_place}
 use Rattle.rss_store.specs.Formatted.{first_root, first_owners, IsFormatted}
 use Rattle.rss_store.proofs.FirstOwners.{owner_first, owner_is}
@@ -108,6 +109,9 @@ no_relation number relation is = none-some relation (sym (none_numbered 48 numbe
 no_segment : (number : ℕ) (name : Name) → segment_at no_listing number ≡ Some name → ⊥
 no_segment number name is = none-some name (sym (none_numbered 8 number) ∙ is)
 
+no_link : (number : ℕ) (link : LinkEntry) → link_at no_listing number ≡ Some link → ⊥
+no_link number link is = none-some link (sym (none_numbered 64 number) ∙ is)
+
 no_listing_plain : IsPlain no_listing
 no_listing_plain = record { no_images = refl; no_links = refl }
 
@@ -170,17 +174,17 @@ spells_none slots log_pages pages made =
       formed = λ key bytes is there. absurd (none-some bytes (sym (none key is) ∙ there));
       linked = none_linked held none;
       listed = no_listing_fits;
-      defines = listing_defines no_listing_fits refl;
+      defines = listing_defines no_listing_fits;
       counts = λ number relation at. absurd (no_relation number relation at);
-      contents = spelled_contents refl (record {
+      contents = record {
         stands = λ number relation tid values at is. absurd (no_relation number relation at);
         bodies_are = λ segment tid body is. absurd (none-some body (sym (no_body held none segment tid) ∙ is));
         only = λ item there. absurd (true≢false (sym there ∙ ap is_some (absent item)));
-      });
+        ends = λ number link at. absurd (no_link number link at);
+      };
       images = plain_images no_listing_plain (λ key image there.
           let both : Image ≡ System = sym image ∙ first_page slots key (sym (held_mapped first pages (first_owners slots) key) ∙ there) in
           absurd (cc));
-      no_links = refl;
     }
 
 holds_none : (slots log_pages : ℕ) (pages : Pages) → IsFormatted slots log_pages pages → HoldsListing (held_at (slots_at slots log_pages) pages (first_owners slots)) no_listing

@@ -1,16 +1,17 @@
 -- The tables that the pages of a store are found to spell, where they are sound; and that sound pages are those of tables.
-use Rattle.std.proofs.Common.{◌≡◌, inl, inr, ℕ, ◌<◌, ◌≤◌, true, false, List, ◌∷◌, refl, sym, ◌∙◌, ap, subst, arith}
+use Rattle.std.proofs.Common.{◌≡◌, ◌⊎◌, inl, inr, ℕ, ◌<◌, ◌≤◌, true, false, cond, List, ◌∷◌, ◌++◌, drop, refl, sym, ◌∙◌, ap, subst, arith}
 use Rattle.std.specs.Prelude.{Option, Some, None, is_some, option_map, ◌==◌}
 use Rattle.std.specs.FinMap as map
-use Rattle.std.specs.FinMap.{same_map}
+use Rattle.std.specs.FinMap.{same_map, get-retain_keys}
 use Rattle.std.proofs.lemmas.Bool.{cases_Bool, cases_lt, true≢false, eq-eqb, and_from}
-use Rattle.std.proofs.lemmas.List.{get_or_past}
+use Rattle.std.proofs.lemmas.List.{get_or_past, drop_at}
 use Rattle.std.proofs.lemmas.Option.{none-some, same_Some}
 use Rattle.rss_base.specs.PageMap.{IsKey, number_limit}
 use Rattle.rss_base.specs.Paged.{Held, page_key}
 use Rattle.rss_base.specs.Sizes.{segments}
+use Rattle.rss_base.specs.Prefixes.{prefix_size}
 use Rattle.rss_base.specs.TupleTypes.{kinds, misfit, tuple_bytes, Spells}
-use Rattle.rss_base.specs.Listings.{Listing, ListingFits, HasNoLinks, HoldsListing, segment_at, relation_at}
+use Rattle.rss_base.specs.Listings.{Listing, ListingFits, HoldsListing, segment_at, relation_at}
 use Rattle.rss_base.specs.declared.key.PageKey.{PageKey}
 use Rattle.rss_base.specs.declared.key.Space.{Space}
 use Rattle.rss_base.specs.declared.key.Space.TheVariants.{Home, Overflow, Image, System}
@@ -19,7 +20,7 @@ use Rattle.rss_base.specs.declared.image.ImageEntry.{ImageEntry}
 use Rattle.rss_base.specs.declared.relation.RelationEntry.{RelationEntry}
 use Rattle.rss_base.specs.declared.tid.Tid.{Tid}
 use Rattle.rss_base.specs.declared.item.Item.{Item}
-use Rattle.rss_base.specs.declared.item.Item.TheVariants.{Tuple as TupleItem, Chain as ChainItem}
+use Rattle.rss_base.specs.declared.item.Item.TheVariants.{Segment as SegmentItem, Relation as RelationItem, Tuple as TupleItem, Chain as ChainItem, Key as KeyItem}
 use Rattle.rss_base.specs.declared.value.Value.{Value}
 use Rattle.rss_value.specs.Spelled.{is_spelled}
 use Rattle.rss_value.proofs.Spelling.{is_spelled_exactly}
@@ -30,33 +31,35 @@ use Rattle.rss_page.proofs.Contents.{length-entries}
 use Rattle.rss_tuple.specs.Directory.{contents_in, homes, overflows, body_by, bodies_of}
 use Rattle.rss_tuple.specs.Heaps.{IsHeap, AreLinked}
 use Rattle.rss_tuple.specs.Checked.{tuples_of}
+use Rattle.rss_tuple.specs.TupleSteps.{tuples_in}
 use Rattle.rss_model.specs.Items.{Content, Values}
 use Rattle.rss_model.specs.Tables.{RelationDef, ImageDef, Contents, Tables, content, fields_of, segment_of, is_tuple_of, tuple_count}
 use Rattle.rss_model.specs.Fits.{HasContent, IsTupleOf, IsLive, IsIdentifier, Fits, tuple_limit}
 use Rattle.rss_model.specs.Images.{HasKey, KeysFit}
-use Rattle.rss_model.specs.Chains.{LinksFit}
-use Rattle.rss_model.proofs.Plain.{plain_links}
-use Rattle.rss_model.specs.Store.{IsStorePage, IsTupleItem, IsListedImage, AreCounts, AreNodesWithin, Defines, SpellsContents, SpellsImages, SpellsTables, image_definition, plain_body as body_of}
-use Rattle.rss_model.proofs.PlainStores.{spelled_contents, contents_spelled, same_body, PlainBody as IsTupleBody}
+use Rattle.rss_model.specs.Store.{IsStorePage, IsTupleItem, IsListedImage, AreCounts, AreNodesWithin, Defines, SpellsImages, SpellsTables, IsTupleBody, IsChainItem, image_definition, prefix_of, body_of}
 use Rattle.rss_model.proofs.Codes.{item_total, item_apart, name_total, name_apart}
 use Rattle.rss_model.proofs.Contents.{not_tied}
 use Rattle.rss_model.proofs.Listed.{listed, stands_within, number_within}
 use Rattle.rss_model.proofs.LogLists.{some_of}
 use Rattle.rss_model.proofs.Putting.{same_parts}
 use Rattle.rss_model.proofs.Relisted.{number_within_list}
-use Rattle.rss_model.proofs.Spelled.{named_relation, named_image, spelled, tuple_bytes_same}
+use Rattle.rss_model.proofs.Spelled.{named_relation, named_image, listed_link, spelled, tuple_bytes_same}
+use Rattle.rss_members.specs.Members.{SpellsMembers}
+use Rattle.rss_members.proofs.Prefixed.{long_prefix}
+use Rattle.rss_members.proofs.Gathered.{StandsIn, IsBodyOfTuple, SpellsTuples, chains_had}
+use Rattle.rss_members.proofs.GatheredChains.{Gathered, gathered, no_ends_had}
 use Rattle.rss_entries.specs.Seeking.{AreSingle}
 use Rattle.rss_access.specs.Bodies.{is_body, is_values_of}
 use Rattle.rss_access.specs.Changes.{AccessView}
 use Rattle.rss_access.specs.Checking.{ShowsTuples}
 use Rattle.rss_access.proofs.Looking.{single}
 use Rattle.rss_access.proofs.NodesReached.{all_within}
-use Rattle.rss_store.specs.Checks.{count_of, IsSegmentOf, AreSound, ChecksImages}
+use Rattle.rss_store.specs.Checks.{count_of, IsSegmentOf, AreSound, ChecksImages, ChecksLinks}
 use Rattle.rss_store.specs.Looks.{HoldsTables, HoldsNone}
 use Rattle.rss_store.proofs.Empties.{entry_none, linked_none}
 use Rattle.rss_store.proofs.Made.{definitions_of, listing_defines, listing_fits}
 use Rattle.rss_model.proofs.ListedOnce.{listing_once}
-use Rattle.rss_store.proofs.Rows.{IsAt, IsNamedIn, AreGood, Spot, values_in, named_by, held_by, item_of, contents_of, spots_of, spots_at, each_among, none_of, same_number, same_relation, relation_body, body_at_spot, found_at, found_spot, relation_counted}
+use Rattle.rss_store.proofs.Rows.{IsAt, IsNamedIn, AreGood, Spot, values_in, named_by, held_by, item_of, contents_of, spots_of, spots_at, each_among, none_of, same_number, same_relation, relation_body, body_of_bytes, body_at_spot, found_at, found_spot, relation_counted}
 
 -- ---- identifiers, and numbers of segments
 
@@ -110,7 +113,7 @@ unlisted_linked held listing only segment none = linked_none (homes held segment
 
 -- ---- pages that are found sound
 
-module _ (held : Held) (slots : ℕ) (listing : Listing) (fits : ListingFits listing) (no_links : HasNoLinks listing) (only : (key : PageKey) → is_some (held key) ≡ true → IsStorePage listing key) (allowed : (key : PageKey) → is_some (held key) ≡ true → IsKey slots key)
+module _ (held : Held) (slots : ℕ) (listing : Listing) (fits : ListingFits listing) (only : (key : PageKey) → is_some (held key) ≡ true → IsStorePage listing key) (allowed : (key : PageKey) → is_some (held key) ≡ true → IsKey slots key)
     (sound : (segment : ℕ) → is_some (segment_at listing segment) ≡ true → IsSegmentOf held slots listing segment) where
   body_listed : (segment : ℕ) (tid : Tid) (body : List ℕ) → bodies_of held segment tid ≡ Some body → is_some (segment_at listing segment) ≡ true
   body_listed segment tid body is = heap_listed held listing only (page_key segment Home tid.page) (inl refl) (there (held (page_key segment Home tid.page)) refl is)
@@ -130,7 +133,7 @@ module _ (held : Held) (slots : ℕ) (listing : Listing) (fits : ListingFits lis
   found_tables = record { definitions = definitions_of listing; contents = contents_of listing (spots_of held slots) }
 
   defines : Defines listing (definitions_of listing)
-  defines = listing_defines fits no_links
+  defines = listing_defines fits
 
   -- the fields of a listed relation
   fields_found : (number : ℕ) (relation : RelationEntry) → relation_at listing number ≡ Some relation → fields_of found_tables relation.name ≡ Some (kinds relation.fields)
@@ -144,7 +147,7 @@ module _ (held : Held) (slots : ℕ) (listing : Listing) (fits : ListingFits lis
       relation_counted found_good number relation at within.0 within.1 ∙ ((sound relation.segment (fits.relations number relation at).segment).counts number relation at refl).0
 
   -- a tuple that is there, by its relation
-  stands_found : (number : ℕ) (relation : RelationEntry) (tid : Tid) (values : List Value) → relation_at listing number ≡ Some relation → content found_tables.contents (TupleItem relation.name tid) ≡ Some (Values values) → bodies_of held relation.segment tid ≡ Some (body_of number values)
+  stands_found : (number : ℕ) (relation : RelationEntry) (tid : Tid) (values : List Value) → relation_at listing number ≡ Some relation → content found_tables.contents (TupleItem relation.name tid) ≡ Some (Values values) → StandsIn listing (bodies_of held) relation.segment tid number values
   stands_found number relation tid values at is =
       let found = found_spot found_good (TupleItem relation.name tid) (Values values) is in
       let of = body_at_spot found_good found.0 found.1 in
@@ -152,11 +155,17 @@ module _ (held : Held) (slots : ℕ) (listing : Listing) (fits : ListingFits lis
       let numbers : of.number ≡ number = same_number fits of.number number of.relation relation of.at at (sym of.named ∙ parts.0) in
       let relations : of.relation ≡ relation = same_relation fits of.number number of.relation relation of.at at numbers in
       let segment : found.0.0 ≡ relation.segment = sym of.within ∙ ap (λ (r : RelationEntry). r.segment) relations in
-      let same : values_in (kinds of.relation.fields) of.bytes ≡ values = let e : Values (values_in (kinds of.relation.fields) of.bytes) ≡ Values values = sym of.holds ∙ found.3 in cc in
-      let body : found.0.1.1 ≡ body_of number values = of.is ∙ (λ i. numbers i ∷ (of.spelled.same ∙ ap tuple_bytes same) i) in
-      (λ i. bodies_of held (sym segment i) (sym parts.1 i)) ∙ found.1 ∙ ap Some body
+      let same : values_in (kinds of.relation.fields) of.bytes ≡ values = let e : Values (values_in (kinds of.relation.fields) of.bytes) ≡ Values values = sym of.holds ∙ found.3 in cc in record {
+        body = found.0.1.1;
+        there = (λ i. bodies_of held (sym segment i) (sym parts.1 i)) ∙ found.1;
+        holds = record {
+          prefix = of.prefix;
+          long = of.long ∙ ap (prefix_size listing.links) numbers;
+          is = of.is ∙ (λ i. numbers i ∷ (of.prefix ++ (of.spelled.same ∙ ap tuple_bytes same) i));
+        };
+      }
 
-  body_found : (segment : ℕ) (tid : Tid) (body : List ℕ) → bodies_of held segment tid ≡ Some body → IsTupleBody listing found_tables.contents segment tid body
+  body_found : (segment : ℕ) (tid : Tid) (body : List ℕ) → bodies_of held segment tid ≡ Some body → IsBodyOfTuple listing found_tables.contents segment tid body
   body_found segment tid body is =
       let of = relation_body listing segment body (found_good.good segment tid body is) in
       record {
@@ -165,7 +174,7 @@ module _ (held : Held) (slots : ℕ) (listing : Listing) (fits : ListingFits lis
         values = values_in (kinds of.relation.fields) of.bytes;
         at = of.at;
         within = of.within;
-        is = of.is ∙ ap (λ (bytes : List ℕ). of.number ∷ bytes) of.spelled.same;
+        is = record { prefix = of.prefix; long = of.long; is = of.is ∙ ap (λ (bytes : List ℕ). of.number ∷ (of.prefix ++ bytes)) of.spelled.same };
         storable = of.spelled.storable;
         holds = ap (λ (name : Name). content found_tables.contents (TupleItem name tid)) (sym of.named) ∙ found_at found_good segment tid body is ∙ ap Some of.holds;
       }
@@ -183,9 +192,6 @@ module _ (held : Held) (slots : ℕ) (listing : Listing) (fits : ListingFits lis
     | inr none ↦ unlisted_linked held listing only segment none
   ]
 
-  found_contents : SpellsContents listing (bodies_of held) found_tables.contents
-  found_contents = spelled_contents no_links (record { stands = stands_found; bodies_are = body_found; only = item_found })
-
   formed_found : (key : PageKey) (bytes : List ℕ) → IsHeapKey key → held key ≡ Some bytes → IsHeap key bytes None
   formed_found key bytes heap is = (sound key.segment (heap_listed held listing only key heap (ap is_some is))).sound.formed key bytes (refl, heap) is
 
@@ -200,7 +206,8 @@ module _ (held : Held) (slots : ℕ) (listing : Listing) (fits : ListingFits lis
     named : relation.name ≡ name
     spelled : Spells (kinds relation.fields) bytes (values_in (kinds relation.fields) bytes)
     holds : c ≡ Values (values_in (kinds relation.fields) bytes)
-    stands : bodies_of held relation.segment tid ≡ Some (number ∷ bytes)
+    prefix : List ℕ
+    stands : bodies_of held relation.segment tid ≡ Some (number ∷ (prefix ++ bytes))
 
   there_found : (name : Name) (tid : Tid) (c : Content) → content found_tables.contents (TupleItem name tid) ≡ Some c → IsThere name tid c
   there_found name tid c is =
@@ -215,6 +222,7 @@ module _ (held : Held) (slots : ℕ) (listing : Listing) (fits : ListingFits lis
         named = sym of.named ∙ parts.0;
         spelled = of.spelled;
         holds = sym found.3 ∙ of.holds;
+        prefix = of.prefix;
         stands = (λ i. bodies_of held (of.within i) (sym parts.1 i)) ∙ found.1 ∙ ap Some of.is;
       }
 
@@ -242,7 +250,7 @@ module _ (held : Held) (slots : ℕ) (listing : Listing) (fits : ListingFits lis
       let in_a : segment_of found_tables one ≡ Some at_a.0 = ap (segment_of found_tables) (sym a.named) ∙ stands_within found_tables fits defines a.number a.relation a.at at_a.0 at_a.1.within in
       let in_b : segment_of found_tables b.relation.name ≡ Some at_a.0 = ap (segment_of found_tables) b.named ∙ sym same ∙ in_a in
       let segment : b.relation.segment ≡ a.relation.segment = number_within found_tables fits defines b.number b.relation b.at a.relation.segment at_a.0 at_a.1.within in_b in
-      let bodies : a.number ∷ a.bytes ≡ b.number ∷ b.bytes = same_Some _ _ (sym a.stands ∙ ap (λ (n : ℕ). bodies_of held n tid) (sym segment) ∙ b.stands) in
+      let bodies : a.number ∷ (a.prefix ++ a.bytes) ≡ b.number ∷ (b.prefix ++ b.bytes) = same_Some _ _ (sym a.stands ∙ ap (λ (n : ℕ). bodies_of held n tid) (sym segment) ∙ b.stands) in
       let numbers : a.number ≡ b.number = cc in
       sym a.named ∙ ap (λ (r : RelationEntry). r.name) (same_relation fits a.number b.number a.relation b.relation a.at b.at numbers) ∙ b.named
 
@@ -264,17 +272,33 @@ module _ (held : Held) (slots : ℕ) (listing : Listing) (fits : ListingFits lis
           (sym (ap (λ (n : Name). is_some (map.get (definitions_of listing).relations n)) (same ∙ of.named) ∙ ap is_some (defines.relations of.number of.relation so.0 so.1)) ∙ none))
 
   tids_found : (name : Name) (tid : Tid) → IsLive found_tables name tid → IsIdentifier slots tid
-  tids_found name tid lives = let of = (live_found name tid lives).1 in (named_in held slots allowed of.relation.segment tid (of.number ∷ of.bytes) of.stands).named
+  tids_found name tid lives = let of = (live_found name tid lives).1 in (named_in held slots allowed of.relation.segment tid (of.number ∷ (of.prefix ++ of.bytes)) of.stands).named
 
-  links_found : LinksFit found_tables
-  links_found = plain_links found_tables (λ link parent. no_chain link parent (content found_tables.contents (ChainItem link parent)) refl)
-    where
-      no_chain : (link : Name) (parent : Option Tid) (found : Option Content) → content found_tables.contents (ChainItem link parent) ≡ found → content found_tables.contents (ChainItem link parent) ≡ None
-      no_chain link parent None is = is
-      no_chain link parent (Some held) is = let of = item_found (ChainItem link parent) (ap is_some is) in let both : ChainItem link parent ≡ TupleItem of.relation.name of.tid = of.is in absurd (cc)
+  -- the bodies are those of these tuples
+  pub tuples_found : slots < 4294967296 → SpellsTuples listing (bodies_of held) found_tables
+  tuples_found small = record {
+    listed = fits;
+    defines = defines;
+    stands = stands_found;
+    bodies_are = body_found;
+    tuples = tuple_found;
+    tids = λ name tid lives. let named = tids_found name tid lives in (omega (arith, named.page, small), omega (arith, named.slot));
+  }
 
-  only_found : (item : Item) → is_some (content found_tables.contents item) ≡ true → HasContent item
-  only_found item there = let of = item_found item there in subst HasContent (sym of.is) (tt {0})
+-- contents with the same tuples have as many of each relation
+pub counts_alike : (a b : Contents) → ((relation : Name) (tid : Tid) → content a (TupleItem relation tid) ≡ content b (TupleItem relation tid)) → (name : Name) → tuple_count a name ≡ tuple_count b name
+unfolding tuple_count
+counts_alike a b same name = ap map.len (same_map item_total item_apart (map.retain_keys a (is_tuple_of name)) (map.retain_keys b (is_tuple_of name)) (λ item. kept a item ∙ by item ∙ sym (kept b item)))
+  where
+    kept : (c : Contents) (item : Item) → content (map.retain_keys c (is_tuple_of name)) item ≡ cond (is_tuple_of name item) (content c item) None
+    kept c item = get-retain_keys c (is_tuple_of name) item (λ x tie. sym (ap (is_tuple_of name) (item_apart item x tie)))
+
+    by : (item : Item) → cond (is_tuple_of name item) (content a item) None ≡ cond (is_tuple_of name item) (content b item) None
+    by (SegmentItem other) = refl
+    by (RelationItem other) = refl
+    by (TupleItem relation tid) = ap (λ (o : Option Content). cond (is_tuple_of name (TupleItem relation tid)) o None) (same relation tid)
+    by (ChainItem link parent) = refl
+    by (KeyItem image values) = refl
 
 -- where no unique image that is listed has a key twice, no unique image that is defined has
 keys_single : {listing : Listing} {tables : Tables} → ListingFits listing → Defines listing tables.definitions
@@ -289,20 +313,32 @@ keys_single {listing = listing} {tables = tables} fits defines single name image
 
 -- ---- pages whose images are found sound
 
-module _ (at : AccessView) (small : at.pages.slots < 4294967296) (fits : ListingFits at.catalog.listing) (no_links : HasNoLinks at.catalog.listing) (only : (key : PageKey) → is_some (at.pages.held key) ≡ true → IsStorePage at.catalog.listing key) (allowed : (key : PageKey) → is_some (at.pages.held key) ≡ true → IsKey at.pages.slots key)
-    (sound : (segment : ℕ) → is_some (segment_at at.catalog.listing segment) ≡ true → IsSegmentOf at.pages.held at.pages.slots at.catalog.listing segment) (images : ChecksImages at) where
+module _ (at : AccessView) (small : at.pages.slots < 4294967296) (fits : ListingFits at.catalog.listing) (only : (key : PageKey) → is_some (at.pages.held key) ≡ true → IsStorePage at.catalog.listing key) (allowed : (key : PageKey) → is_some (at.pages.held key) ≡ true → IsKey at.pages.slots key)
+    (sound : (segment : ℕ) → is_some (segment_at at.catalog.listing segment) ≡ true → IsSegmentOf at.pages.held at.pages.slots at.catalog.listing segment) (chains : ChecksLinks at) (images : ChecksImages at) where
+  abbrev tuples_alone : Tables
+  tuples_alone = found_tables at.pages.held at.pages.slots at.catalog.listing fits only allowed sound
+
+  found_chains : Gathered at.catalog.listing (bodies_of at.pages.held) tuples_alone
+  found_chains = gathered {view = tuples_in at.pages} (tuples_found at.pages.held at.pages.slots at.catalog.listing fits only allowed sound small) (item_found at.pages.held at.pages.slots at.catalog.listing fits only allowed sound)
+      (λ number link listed_so. (chains number link listed_so).chains) (λ number link listed_so. (chains number link listed_so).no_ends)
+
   abbrev tables : Tables
-  tables = found_tables at.pages.held at.pages.slots at.catalog.listing fits no_links only allowed sound
+  tables = record { definitions = tuples_alone.definitions; contents = found_chains.contents }
+
+  count_same : (name : Name) → tuple_count tables.contents name ≡ tuple_count tuples_alone.contents name
+  count_same name = counts_alike tables.contents tuples_alone.contents found_chains.tuples name
+
+  lives_alone : (name : Name) (tid : Tid) → IsLive tables name tid → IsLive tuples_alone name tid
+  lives_alone name tid lives = ap is_some (sym (found_chains.tuples name tid)) ∙ lives
 
   found_shows : ShowsTuples at tables
   found_shows = record {
     listed = fits;
-    defines = listing_defines fits no_links;
-    counts = found_counts at.pages.held at.pages.slots at.catalog.listing fits no_links only allowed sound;
-    contents = found_contents at.pages.held at.pages.slots at.catalog.listing fits no_links only allowed sound;
-    tuples = tuple_found at.pages.held at.pages.slots at.catalog.listing fits no_links only allowed sound;
-    tids = tids_found at.pages.held at.pages.slots at.catalog.listing fits no_links only allowed sound;
-    no_links = no_links;
+    defines = listing_defines fits;
+    counts = λ number relation listed_so. count_same relation.name ∙ found_counts at.pages.held at.pages.slots at.catalog.listing fits only allowed sound number relation listed_so;
+    contents = found_chains.spells.contents;
+    tuples = found_chains.spells.tuples;
+    tids = λ name tid lives. tids_found at.pages.held at.pages.slots at.catalog.listing fits only allowed sound name tid (lives_alone name tid lives);
   }
 
   found_sound : AreSound at tables
@@ -317,14 +353,13 @@ module _ (at : AccessView) (small : at.pages.slots < 4294967296) (fits : Listing
   found_spells : SpellsTables at.pages.held at.catalog.listing tables
   found_spells = record {
     only = only;
-    formed = formed_found at.pages.held at.pages.slots at.catalog.listing fits no_links only allowed sound;
-    linked = linked_found at.pages.held at.pages.slots at.catalog.listing fits no_links only allowed sound;
+    formed = formed_found at.pages.held at.pages.slots at.catalog.listing fits only allowed sound;
+    linked = linked_found at.pages.held at.pages.slots at.catalog.listing fits only allowed sound;
     listed = fits;
     defines = found_shows.defines;
     counts = found_shows.counts;
     contents = found_shows.contents;
     images = found_images;
-    no_links = no_links;
   }
 
   found_nodes : AreNodesWithin at.pages.slots at.pages.held at.catalog.listing
@@ -339,15 +374,19 @@ module _ (at : AccessView) (small : at.pages.slots < 4294967296) (fits : Listing
 
   found_fit : Fits at.pages.slots tables
   found_fit = record {
-    definitions = listing_fits fits no_links found_shows.defines;
+    definitions = listing_fits fits found_shows.defines;
     tuples = found_shows.tuples;
     tids = found_shows.tids;
-    alone = alone_found at.pages.held at.pages.slots at.catalog.listing fits no_links only allowed sound;
-    few = few_found at.pages.held at.pages.slots at.catalog.listing fits no_links only allowed sound;
+    alone = λ one other tid first second. alone_found at.pages.held at.pages.slots at.catalog.listing fits only allowed sound one other tid (lives_alone one tid first) (lives_alone other tid second);
+    few = λ name. let few = few_found at.pages.held at.pages.slots at.catalog.listing fits only allowed sound name in omega (arith, few, count_same name);
     keys = keys_single fits found_shows.defines (λ number image relation listed. (found_sound.each number image relation listed).single);
-    links = links_found at.pages.held at.pages.slots at.catalog.listing fits no_links only allowed sound;
-    only = only_found at.pages.held at.pages.slots at.catalog.listing fits no_links only allowed sound;
+    links = found_chains.spells.links;
+    only = λ item there. has_content item (found_chains.spells.contents.only item there);
   }
+    where
+      has_content : (item : Item) → IsTupleItem at.catalog.listing item ⊎ IsChainItem at.catalog.listing item → HasContent item
+      has_content item (inl of) = subst HasContent (sym of.is) (tt {0})
+      has_content item (inr of) = subst HasContent (sym of.is) (tt {0})
 
   pub holds_found : HoldsListing at.pages.held at.catalog.listing → HoldsTables at.pages.held at.pages.slots at.catalog.listing
   holds_found system = record { tables = tables; system = system; spells = found_spells; nodes = found_nodes; fit = found_fit }
@@ -370,9 +409,11 @@ module _ {held : Held} {slots : ℕ} {listing : Listing} {tables : Tables} (allo
 
   good_body : (segment : ℕ) (tid : Tid) (body : List ℕ) → bodies_of held segment tid ≡ Some body → is_body listing segment body ≡ true
   good_body segment tid body is =
-      let of = (contents_spelled spells).bodies_are segment tid body is in
+      let of = spells.contents.bodies_are segment tid body is in
       let spelled = (is_spelled_exactly (kinds of.relation.fields) (tuple_bytes of.values)).1 (of.values, record { fit = fits_listed of.number of.relation tid of.values of.at of.holds; storable = of.storable; same = refl }) in
-      ap (is_body listing segment) of.is ∙ ap (λ (found : Option RelationEntry). is_values_of found segment (tuple_bytes of.values)) of.at
+      ap (is_body listing segment) of.is
+      ∙ body_of_bytes listing segment of.number (prefix_of listing tables.contents of.number tid) (tuple_bytes of.values) (long_prefix tables.contents of.number tid listing.links)
+      ∙ ap (λ (found : Option RelationEntry). is_values_of found segment (tuple_bytes of.values)) of.at
       ∙ and_from (of.relation.segment == segment) (is_spelled (kinds of.relation.fields) (tuple_bytes of.values)) (eq-eqb of.relation.segment segment of.within) spelled
 
   spelled_good : AreGood listing held slots
@@ -382,42 +423,50 @@ module _ {held : Held} {slots : ℕ} {listing : Listing} {tables : Tables} (allo
   same_read : (segment : ℕ) (tid : Tid) (body : List ℕ) (of : IsTupleBody listing tables.contents segment tid body) → is_body listing segment body ≡ true → (named_by listing body ≡ of.relation.name) × (held_by listing body ≡ Values of.values)
   same_read segment tid body of good =
       let read = relation_body listing segment body good in
-      let whole : read.number ∷ read.bytes ≡ of.number ∷ tuple_bytes of.values = sym read.is ∙ of.is in
+      let prefix : List ℕ = prefix_of listing tables.contents of.number tid in
+      let whole : read.number ∷ (read.prefix ++ read.bytes) ≡ of.number ∷ (prefix ++ tuple_bytes of.values) = sym read.is ∙ of.is in
       let numbers : read.number ≡ of.number = cc in
-      let bytes : read.bytes ≡ tuple_bytes of.values = cc in
+      let rest : read.prefix ++ read.bytes ≡ prefix ++ tuple_bytes of.values = cc in
+      let bytes : read.bytes ≡ tuple_bytes of.values =
+      sym (drop_at read.prefix read.bytes (prefix_size listing.links of.number) (read.long ∙ ap (prefix_size listing.links) numbers))
+      ∙ ap (drop (prefix_size listing.links of.number)) rest
+      ∙ drop_at prefix (tuple_bytes of.values) (prefix_size listing.links of.number) (long_prefix tables.contents of.number tid listing.links) in
       let relations : read.relation ≡ of.relation = same_relation spells.listed read.number of.number read.relation of.relation read.at of.at numbers in
       let fitting : misfit (kinds read.relation.fields) of.values ≡ None = ap (λ (r : RelationEntry). misfit (kinds r.fields) of.values) relations ∙ fits_listed of.number of.relation tid of.values of.at of.holds in
       let values = tuple_bytes_same 1 (kinds read.relation.fields) (values_in (kinds read.relation.fields) read.bytes) of.values read.spelled.fit fitting read.spelled.storable of.storable (sym read.spelled.same ∙ bytes) in
       (read.named ∙ ap (λ (r : RelationEntry). r.name) relations, read.holds ∙ ap Values values)
 
-  -- what is found is there
+  -- a tuple that is found is there
   there_spelled : (item : Item) (c : Content) → content (contents_of listing (spots_of held slots)) item ≡ Some c → content tables.contents item ≡ Some c
   there_spelled item c is =
       let found = found_spot spelled_good item c is in
-      let of = (contents_spelled spells).bodies_are found.0.0 found.0.1.0 found.0.1.1 found.1 in
+      let of = spells.contents.bodies_are found.0.0 found.0.1.0 found.0.1.1 found.1 in
       let read = same_read found.0.0 found.0.1.0 found.0.1.1 of (good_body found.0.0 found.0.1.0 found.0.1.1 found.1) in
       ap (content tables.contents) (sym found.2 ∙ ap (λ (n : Name). TupleItem n found.0.1.0) read.0) ∙ of.holds ∙ ap Some (sym read.1 ∙ found.3)
 
-  -- and what is there is found
-  found_spelled : (item : Item) (c : Content) → content tables.contents item ≡ Some c → content (contents_of listing (spots_of held slots)) item ≡ Some c
-  found_spelled item c is =
-      let so = spelled spells fit item ((contents_spelled spells).only item (ap is_some is)) c is in
-      let body = body_of so.number so.values in
-      let stands : bodies_of held so.relation.segment so.tid ≡ Some body = so.stands ∙ ap Some (same_body listing tables.contents spells.no_links so.number so.tid so.values) in
-      let of : IsTupleBody listing tables.contents so.relation.segment so.tid body = record { number = so.number; relation = so.relation; values = so.values; at = so.at; within = refl; is = refl; storable = so.storable; holds = ap (content tables.contents) (sym so.is) ∙ is ∙ ap Some so.tuple } in
-      let read = same_read so.relation.segment so.tid body of (good_body so.relation.segment so.tid body stands) in
-      ap (content (contents_of listing (spots_of held slots))) (so.is ∙ ap (λ (n : Name). TupleItem n so.tid) (sym read.0)) ∙ found_at spelled_good so.relation.segment so.tid body stands ∙ ap Some (read.1 ∙ sym so.tuple)
+  tuple_item : (name : Name) (tid : Tid) → IsTupleItem listing (TupleItem name tid) ⊎ IsChainItem listing (TupleItem name tid) → IsTupleItem listing (TupleItem name tid)
+  tuple_item name tid (inl of) = of
+  tuple_item name tid (inr of) = let both : TupleItem name tid ≡ ChainItem of.link.name of.parent = of.is in absurd (cc)
 
-  same_contents : tables.contents ≡ contents_of listing (spots_of held slots)
-  same_contents = same_map item_total item_apart tables.contents (contents_of listing (spots_of held slots)) (λ item. same item (content tables.contents item) refl)
+  -- and one that is there is found
+  found_spelled : (name : Name) (tid : Tid) (c : Content) → content tables.contents (TupleItem name tid) ≡ Some c → content (contents_of listing (spots_of held slots)) (TupleItem name tid) ≡ Some c
+  found_spelled name tid c is =
+      let so = spelled spells fit (TupleItem name tid) (tuple_item name tid (spells.contents.only (TupleItem name tid) (ap is_some is))) c is in
+      let body = body_of listing tables.contents so.number so.tid so.values in
+      let of : IsTupleBody listing tables.contents so.relation.segment so.tid body = record { number = so.number; relation = so.relation; values = so.values; at = so.at; within = refl; is = refl; storable = so.storable; holds = ap (content tables.contents) (sym so.is) ∙ is ∙ ap Some so.tuple } in
+      let read = same_read so.relation.segment so.tid body of (good_body so.relation.segment so.tid body so.stands) in
+      ap (content (contents_of listing (spots_of held slots))) (so.is ∙ ap (λ (n : Name). TupleItem n so.tid) (sym read.0)) ∙ found_at spelled_good so.relation.segment so.tid body so.stands ∙ ap Some (read.1 ∙ sym so.tuple)
+
+  same_tuples : (name : Name) (tid : Tid) → content tables.contents (TupleItem name tid) ≡ content (contents_of listing (spots_of held slots)) (TupleItem name tid)
+  same_tuples name tid = same (content tables.contents (TupleItem name tid)) refl
     where
-      same : (item : Item) (c : Option Content) → content tables.contents item ≡ c → content tables.contents item ≡ content (contents_of listing (spots_of held slots)) item
-      same item (Some c) is = is ∙ sym (found_spelled item c is)
-      same item None is = is ∙ sym (absent (content (contents_of listing (spots_of held slots)) item) refl)
+      same : (c : Option Content) → content tables.contents (TupleItem name tid) ≡ c → content tables.contents (TupleItem name tid) ≡ content (contents_of listing (spots_of held slots)) (TupleItem name tid)
+      same (Some c) is = is ∙ sym (found_spelled name tid c is)
+      same None is = is ∙ sym (absent (content (contents_of listing (spots_of held slots)) (TupleItem name tid)) refl)
         where
-          absent : (c : Option Content) → content (contents_of listing (spots_of held slots)) item ≡ c → c ≡ None
+          absent : (c : Option Content) → content (contents_of listing (spots_of held slots)) (TupleItem name tid) ≡ c → c ≡ None
           absent None there = refl
-          absent (Some c) there = absurd (none-some c (sym is ∙ there_spelled item c there))
+          absent (Some c) there = absurd (none-some c (sym is ∙ there_spelled (TupleItem name tid) c there))
 
   -- each segment is sound
   pub spelled_segment : (segment : ℕ) → IsSegmentOf held slots listing segment
@@ -432,9 +481,22 @@ module _ {held : Held} {slots : ℕ} {listing : Listing} {tables : Tables} (allo
         let count = relation_counted spelled_good number relation at low.0 low.1 in
         let live = spells.counts number relation at in
         let few = fit.few relation.name in
-        let same : tuple_count tables.contents relation.name ≡ count_of number (tuples_of held segment slots) = ap (λ (c : Contents). tuple_count c relation.name) same_contents ∙ count ∙ ap (λ (n : ℕ). count_of number (tuples_of held n slots)) within in
+        let same : tuple_count tables.contents relation.name ≡ count_of number (tuples_of held segment slots) = counts_alike tables.contents (contents_of listing (spots_of held slots)) same_tuples relation.name ∙ count ∙ ap (λ (n : ℕ). count_of number (tuples_of held n slots)) within in
         (sym same ∙ live, omega (arith, few, live));
   }
+
+-- ---- links of tables that are spelled
+
+-- as far as tuples and chains go
+members_spelled : (at : AccessView) (tables : Tables) → SpellsTables at.pages.held at.catalog.listing tables → Fits at.pages.slots tables → at.pages.slots < 4294967296 → SpellsMembers at.catalog.listing (bodies_of at.pages.held) tables
+members_spelled at tables spells fit small = record {
+  listed = spells.listed;
+  defines = spells.defines;
+  contents = spells.contents;
+  tuples = fit.tuples;
+  links = fit.links;
+  tids = λ name tid lives. let named = fit.tids name tid lives in (omega (arith, named.page, small), omega (arith, named.slot));
+}
 
 -- ---- images of tables that are spelled
 
@@ -447,8 +509,15 @@ module _ {at : AccessView} {tables : Tables} (spells : SpellsTables at.pages.hel
     contents = spells.contents;
     tuples = fit.tuples;
     tids = fit.tids;
-    no_links = spells.no_links;
   }
+
+  -- each listed link has its chains
+  pub links_spelled : at.pages.slots < 4294967296 → ChecksLinks at
+  links_spelled small number link listed_so =
+      let its = listed_link spells.listed number link listed_so in record {
+        chains = chains_had {view = tuples_in at.pages} (members_spelled at tables spells fit small) number link its.0 its.1;
+        no_ends = λ binary. no_ends_had (members_spelled at tables spells fit small) number link its.0 its.1 binary;
+      }
 
   pub sound_spelled : AreNodesWithin at.pages.slots at.pages.held at.catalog.listing → AreSound at tables
   sound_spelled below = record {

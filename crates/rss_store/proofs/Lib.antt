@@ -16,7 +16,6 @@ pub mod Found
 pub mod Census
 pub mod DifferentKeys
 pub mod LookedImages
-pub mod Linkless
 pub mod Looked
 pub mod Resting
 pub mod RoomsAtRest
@@ -30,3 +29,4 @@ pub mod Altered
 pub mod Making
 pub mod Turning
 pub mod Cutting
+pub mod LookedLinks

@@ -1,36 +1,37 @@
 -- How a look through all pages of a store ends.
-use Rattle.std.proofs.Common.{◌≡◌, inl, inr, ℕ, zero, suc, ◌+◌, ◌-◌, ◌*◌, ◌<◌, ◌≤◌, true, false, get_or, replicate, Option, None, refl, sym, ◌∙◌, ap, subst, arith}
+use Rattle.std.proofs.Common.{◌≡◌, inl, inr, ℕ, zero, suc, ◌+◌, ◌-◌, ◌*◌, ◌<◌, ◌≤◌, true, false, refl, sym, ◌∙◌, ap, subst, arith}
 use Rattle.std.specs.Prelude.{Result, Ok, Err, Some, is_some}
 use Rattle.std.proofs.lemmas.Bool.{cases_eq, true≢false}
 use Rattle.rss_base.specs.DiskRule.{IsTold}
-use Rattle.rss_base.specs.PageMap.{IsKey, IsSegmentOf as IsSegmentNumber}
+use Rattle.rss_base.specs.PageMap.{IsKey}
 use Rattle.rss_base.specs.Paged.{Held, Mapped, page_key}
 use Rattle.rss_base.specs.Sizes.{segments, system_pages}
 use Rattle.rss_base.specs.Steps.{PagesView, no_page}
 use Rattle.rss_base.specs.Looking.{ChecksPages}
-use Rattle.rss_base.specs.Listings.{Listing, ListingFits, HasNoLinks, HoldsListing, segment_at}
+use Rattle.rss_base.specs.Listings.{Listing, ListingFits, HoldsListing, segment_at}
 use Rattle.rss_base.specs.declared.place.Place.{Place}
-use Rattle.rss_base.specs.declared.place.Place.TheVariants.{Room}
+use Rattle.rss_base.specs.declared.place.Place.TheVariants.{Room, Link as LinkPlace}
 use Rattle.rss_base.specs.declared.fault.PageFault.{PageFault}
 use Rattle.rss_base.specs.declared.fault.PageFault.TheVariants.{Device as DeviceFailed}
 use Rattle.rss_base.specs.declared.key.PageKey.{PageKey}
 use Rattle.rss_base.specs.declared.key.Space.{Space}
-use Rattle.rss_base.specs.declared.key.Space.TheVariants.{Home, Overflow, Image, System}
+use Rattle.rss_base.specs.declared.key.Space.TheVariants.{System}
 use Rattle.rss_base.proofs.Looking.{checks_none, checks_then, checks_within, checks_as}
 use Rattle.rss_page.specs.Slotted.{IsHeapKey}
 use Rattle.rss_tuple.specs.Directory.{homes, overflows}
 use Rattle.rss_tuple.specs.Heaps.{AreLinked, AreHeaps}
 use Rattle.rss_tuple.specs.Checked.{pages_of, IsNoted, AreNoted}
-use Rattle.rss_catalog.specs.Catalogs.{CatalogView, IsCatalogPlace}
+use Rattle.rss_catalog.specs.Catalogs.{CatalogView, Loads, IsCatalogPlace}
 use Rattle.rss_access.specs.Changes.{both}
 use Rattle.rss_access.proofs.Looking.{heaps_looked}
 use Rattle.rss_model.specs.Store.{IsStorePage}
 use Rattle.rss_model.proofs.LogLists.{some_of}
 use Rattle.rss_model.proofs.Relisted.{number_within_list}
-use Rattle.rss_store.specs.Checks.{IsSegmentOf, ChecksSegment, MissesSegment, ChecksSegments, MissesOne, ChecksImages, MissesImages}
-use Rattle.rss_store.specs.Looks.{LoadsPlain, FindsTables, FindsNone, AreAllNoted}
-use Rattle.rss_store.proofs.Found.{heap_listed, linked_found, holds_found, spelled_segment, none_by, shows_spelled, sound_spelled}
+use Rattle.rss_store.specs.Checks.{IsSegmentOf, ChecksSegment, MissesSegment, ChecksSegments, MissesOne, ChecksLinks, MissesLinks, ChecksImages, MissesImages}
+use Rattle.rss_store.specs.Looks.{FindsTables, FindsNone, AreAllNoted}
+use Rattle.rss_store.proofs.Found.{heap_listed, linked_found, holds_found, spelled_segment, none_by, shows_spelled, sound_spelled, links_spelled}
 use Rattle.rss_store.proofs.LookedImages.{tuples_same, all_same}
+use Rattle.rss_store.proofs.LookedLinks.{link_same}
 
 -- ---- pages of no segment that is listed
 
@@ -45,26 +46,6 @@ none_mapped mapped segment space none key one two is = none key.number (omega ar
 pub unlisted_foreign : (listing : Listing) (key : PageKey) → (key.space ≡ System → ⊥) → is_some (segment_at listing key.segment) ≡ false → IsStorePage listing key → ⊥
 unlisted_foreign listing key other none (inl system) = other system
 unlisted_foreign listing key other none (inr listed) = true≢false (sym listed ∙ none)
-
--- where no page of a segment and of another space is mapped, a page of the segment is one of the system space
-pub store_page : (listing : Listing) (mapped : Mapped) (segment : ℕ) → ((space : Space) → (space ≡ System → ⊥) → (key : PageKey) → key.segment ≡ segment → key.space ≡ space → mapped key ≡ true → ⊥) → (key : PageKey) → key.segment ≡ segment → mapped key ≡ true → IsStorePage listing key
-store_page listing mapped segment none key at is = by key.space refl
-  where
-    by : (space : Space) → key.space ≡ space → IsStorePage listing key
-    by Home same = absurd (none Home (λ other. cc) key at same is)
-    by Overflow same = absurd (none Overflow (λ other. cc) key at same is)
-    by Image same = absurd (none Image (λ other. cc) key at same is)
-    by System same = inl same
-
--- each page of a map is, where those of the segments that there may be are
-pub store_pages : (listing : Listing) (slots : ℕ) (key : PageKey) → IsKey slots key → ((1 ≤ key.segment) → key.segment ≤ segments → IsStorePage listing key) → IsStorePage listing key
-store_pages listing slots key is each = by key.space refl is.segment
-  where
-    by : (space : Space) → key.space ≡ space → IsSegmentNumber space key.segment → IsStorePage listing key
-    by Home at low = each low.0 low.1
-    by Overflow at low = each low.0 low.1
-    by Image at low = each low.0 low.1
-    by System at low = inl at
 
 -- ---- one segment after another
 
@@ -165,16 +146,31 @@ looked_all {listing = listing} fits all so segment there =
     let within = number_within_list listing.segments segment name.0 name.1 in
     so.checks segment (omega (arith, within.1, fits.segment_places)) there
 
+-- ---- looks at the same pages, behind that at the segments
+
+-- both together
+pub looks_on : {T U : Type 0} {asks most : ℕ} {old mid new : PagesView} {first : Result T PageFault} {second : Result U PageFault} → ChecksPages IsHeapKey asks old mid first → ChecksPages no_page most mid new second → ChecksPages IsHeapKey (asks + most) old new second
+looks_on one two = checks_then one (checks_within (λ key none. absurd none) (omega arith) two)
+
+-- what was noted still is
+pub noted_on : {U : Type 0} {most : ℕ} {listing : Listing} {old mid new : PagesView} {second : Result U PageFault} → (IsTold old.disk → IsTold mid.disk) → ChecksPages no_page most mid new second → ChecksSegments listing old mid → ChecksSegments listing old new
+noted_on {mid = mid} {new = new} told_mid did checks segment there = record {
+  is = (checks segment there).is;
+  noted = λ told key bytes page is.
+      let was : mid.held key ≡ Some bytes = ap (λ (h : Held). h key) (sym (did.looks.held (told_mid told))) ∙ is in
+      subst (IsNoted key bytes) (sym (did.looks.step.notes_off key (λ none. none))) ((checks segment there).noted told key bytes page was);
+}
+
 -- ---- all pages
 
 -- the pages of the system space spell no listing
-pub none_listed : {old : PagesView} {place : Place} → (IsTold old.disk → (listing : Listing) → ListingFits listing → HasNoLinks listing → HoldsListing old.held listing → ⊥) → IsCatalogPlace place → FindsNone old place
+pub none_listed : {old : PagesView} {place : Place} → (IsTold old.disk → (listing : Listing) → ListingFits listing → HoldsListing old.held listing → ⊥) → IsCatalogPlace place → FindsNone old place
 none_listed flawed named = record {
-  none = λ told listing tables system spells nodes fit. flawed told listing spells.listed spells.no_links system;
+  none = λ told listing tables system spells nodes fit. flawed told listing spells.listed system;
   elsewhere = λ told room. let at = named.is in absurd (cc);
 }
 
-module _ {T : Type 0} {old mid : PagesView} {catalog : CatalogView} {first : Result T PageFault} (holds : IsTold old.disk → (key : PageKey) → is_some (old.held key) ≡ old.mapped key) (allowed : (key : PageKey) → old.mapped key ≡ true → IsKey old.slots key) (loads : LoadsPlain old catalog) (did : ChecksPages no_page system_pages old mid first) where
+module _ {T : Type 0} {old mid : PagesView} {catalog : CatalogView} {first : Result T PageFault} (holds : IsTold old.disk → (key : PageKey) → is_some (old.held key) ≡ old.mapped key) (allowed : (key : PageKey) → old.mapped key ≡ true → IsKey old.slots key) (loads : Loads old catalog) (did : ChecksPages no_page system_pages old mid first) where
   told_then : IsTold old.disk → IsTold mid.disk
   told_then told = did.looks.step.passes.leaves.told.0 told
 
@@ -184,7 +180,7 @@ module _ {T : Type 0} {old mid : PagesView} {catalog : CatalogView} {first : Res
   -- there is a page that no store with these definitions has
   pub none_foreign : {place : Place} (key : PageKey) → mid.mapped key ≡ true → (IsStorePage catalog.listing key → ⊥) → (place ≡ Room → ⊥) → FindsNone old place
   none_foreign key is foreign elsewhere = record {
-    none = λ told. none_by old.held old.slots catalog.listing loads.loaded.fits (loads.loaded.holds told) (λ tables spells nodes fit. foreign (spells.only key (holds told key ∙ was_mapped key is)));
+    none = λ told. none_by old.held old.slots catalog.listing loads.fits (loads.holds told) (λ tables spells nodes fit. foreign (spells.only key (holds told key ∙ was_mapped key is)));
     elsewhere = λ told. elsewhere;
   }
 
@@ -194,26 +190,27 @@ module _ {T : Type 0} {old mid : PagesView} {catalog : CatalogView} {first : Res
   -- a segment isn't in form
   pub none_sound : {place : Place} → MissesOne catalog.listing mid place → FindsNone old place
   none_sound one = record {
-    none = λ told. none_by old.held old.slots catalog.listing loads.loaded.fits (loads.loaded.holds told) (λ tables spells nodes fit.
+    none = λ told. none_by old.held old.slots catalog.listing loads.fits (loads.holds told) (λ tables spells nodes fit.
         one.misses.is_not (told_then told) (subst (λ (h : Held). IsSegmentOf h mid.slots catalog.listing one.segment) (sym (did.looks.held told))
         (subst (λ (n : ℕ). IsSegmentOf old.held n catalog.listing one.segment) (sym did.looks.step.passes.slots) (spelled_segment (key_held told) spells fit one.segment))));
     elsewhere = λ told. one.misses.elsewhere;
   }
 
-  module _ {U : Type 0} {seen : PagesView} {second : Result U PageFault} (did_then : ChecksPages IsHeapKey (1040 * mid.slots) mid seen second) where
+  module _ {U : Type 0} {asks : ℕ} {seen : PagesView} {second : Result U PageFault} (did_then : ChecksPages IsHeapKey asks mid seen second) where
     -- both looks together
-    pub did_two : {V : Type 0} (result : Result V PageFault) → (result ≡ Err DeviceFailed → second ≡ Err DeviceFailed) → ChecksPages IsHeapKey (1040 * old.slots + system_pages) old seen result
+    pub did_two : {V : Type 0} (result : Result V PageFault) → (result ≡ Err DeviceFailed → second ≡ Err DeviceFailed) → (all : ℕ) × ChecksPages IsHeapKey all old seen result
     did_two result is =
         let wide : ChecksPages IsHeapKey system_pages old mid first = checks_within (λ key none. absurd none) (omega arith) did in
-        checks_as result is (checks_within (λ key page. page) (omega (arith, did.looks.step.passes.slots)) (checks_then wide did_then))
+        (system_pages + asks, checks_as result is (checks_then wide did_then))
 
     -- and a third
     pub did_all : {V : Type 0} {most : ℕ} {new : PagesView} {third : Result V PageFault} → ChecksPages no_page most seen new third → {W : Type 0} (result : Result W PageFault) → (result ≡ Err DeviceFailed → third ≡ Err DeviceFailed)
-        → (asks : ℕ) × ChecksPages IsHeapKey asks old new result
-    did_all {most = most} did_last result is = (
-      1040 * old.slots + system_pages + most,
-      checks_as result is (checks_then (did_two {V = U} second (λ failed. failed)) (checks_within (λ key none. absurd none) (omega arith) did_last)),
-    )
+        → (all : ℕ) × ChecksPages IsHeapKey all old new result
+    did_all {most = most} did_last result is =
+        let two = did_two {V = U} second (λ failed. failed) in (
+          two.0 + most,
+          checks_as result is (checks_then two.1 (checks_within (λ key none. absurd none) (omega arith) did_last)),
+        )
 
     told_seen : IsTold old.disk → IsTold seen.disk
     told_seen told = did_then.looks.step.passes.leaves.told.0 (told_then told)
@@ -227,10 +224,23 @@ module _ {T : Type 0} {old mid : PagesView} {catalog : CatalogView} {first : Res
     held_seen : IsTold old.disk → seen.held ≡ old.held
     held_seen told = did_then.looks.held (told_then told) ∙ did.looks.held told
 
+    -- a link has no chains
+    pub none_linked : {place : Place} → old.slots < 4294967296 → (IsTold seen.disk → MissesLinks (both seen catalog) place) → FindsNone old place
+    none_linked small misses = record {
+      none = λ told. none_by old.held old.slots catalog.listing loads.fits (loads.holds told) (λ tables spells nodes fit.
+          let one = misses (told_seen told) in
+          one.is_not (link_same catalog (held_seen told) (links_spelled {at = both old catalog} spells fit small one.number one.link one.listed)));
+      elsewhere = λ told room. let at : LinkPlace (misses (told_seen told)).number ≡ Room = sym (misses (told_seen told)).named ∙ room in absurd (cc);
+    }
+
+    -- all have
+    pub links_old : (IsTold seen.disk → ChecksLinks (both seen catalog)) → IsTold old.disk → ChecksLinks (both old catalog)
+    links_old checks told number link at = link_same catalog (sym (held_seen told)) (checks (told_seen told) number link at)
+
     -- an image isn't in form
     pub none_imaged : {place : Place} → (IsTold seen.disk → MissesImages (both seen catalog) place) → FindsNone old place
     none_imaged misses = record {
-      none = λ told. none_by old.held old.slots catalog.listing loads.loaded.fits (loads.loaded.holds told) (λ tables spells nodes fit.
+      none = λ told. none_by old.held old.slots catalog.listing loads.fits (loads.holds told) (λ tables spells nodes fit.
           (misses (told_seen told)).is_not tables (tuples_same {old = old} {new = seen} catalog slots_seen (held_seen told) (shows_spelled {at = both old catalog} spells fit))
           (all_same {old = old} {new = seen} catalog slots_seen (held_seen told) (sound_spelled {at = both old catalog} spells fit nodes)));
       elsewhere = λ told. (misses (told_seen told)).elsewhere;
@@ -257,13 +267,13 @@ module _ {T : Type 0} {old mid : PagesView} {catalog : CatalogView} {first : Res
             let was : old.held key ≡ Some bytes = ap (λ (h : Held). h key) (sym (held_seen told)) ∙ is in
             (noted_seen told key.segment (heap_listed old.held catalog.listing (only_held told) key heap (ap is_some was)) key bytes (refl, heap) is).heap;
         linked = λ segment. subst (λ (h : Held). AreLinked (homes h segment) (overflows h segment)) (sym (held_seen told))
-            (linked_found old.held old.slots catalog.listing loads.loaded.fits loads.no_links (only_held told) (key_held told) (sound_old told) segment);
+            (linked_found old.held old.slots catalog.listing loads.fits (only_held told) (key_held told) (sound_old told) segment);
       }
 
       pub heaps_seen : IsTold seen.disk → AreHeaps seen
       heaps_seen told = heaps_old (told_back told)
 
-      module _ {V : Type 0} {most : ℕ} {new : PagesView} {third : Result V PageFault} (did_last : ChecksPages no_page most seen new third) (images : IsTold seen.disk → ChecksImages (both seen catalog)) where
+      module _ {V : Type 0} {most : ℕ} {new : PagesView} {third : Result V PageFault} (did_last : ChecksPages no_page most seen new third) (chains : IsTold old.disk → ChecksLinks (both old catalog)) (images : IsTold seen.disk → ChecksImages (both seen catalog)) where
         images_old : IsTold old.disk → ChecksImages (both old catalog)
         images_old told tables shows =
             all_same catalog (sym slots_seen) (sym (held_seen told)) (images (told_seen told) tables (tuples_same catalog slots_seen (held_seen told) shows))
@@ -278,7 +288,7 @@ module _ {T : Type 0} {old mid : PagesView} {catalog : CatalogView} {first : Res
         finds_tables = record {
           loaded = loads;
           only = only_mapped;
-          holds = λ told. holds_found (both old catalog) small loads.loaded.fits loads.no_links (only_held told) (key_held told) (sound_old told) (images_old told) (loads.loaded.holds told);
+          holds = λ told. holds_found (both old catalog) small loads.fits (only_held told) (key_held told) (sound_old told) (chains told) (images_old told) (loads.holds told);
           heaps = λ told. heaps_looked did_last.looks.step (told_seen told) (heaps_old told);
           noted = noted_now;
         }

@@ -1,13 +1,13 @@
 -- How a look at all images of a store goes on, and what it finds.
 use Rattle.std.proofs.Common.{◌≡◌, inl, inr, ⊎_elim, ℕ, zero, suc, ◌+◌, ◌*◌, ◌<◌, ◌≤◌, true, false, List, [], ◌∷◌, ◌++◌, length, length-append, refl, sym, ◌∙◌, ap, subst, arith}
-use Rattle.std.specs.Prelude.{Result, Ok, Err, Some, None, is_some, map as list_map, Contains, slice_index}
+use Rattle.std.specs.Prelude.{Result, Ok, Err, Some, None, is_some, map as list_map, Contains}
 use Rattle.std.proofs.lemmas.Bool.{cases_eq, cases_lt}
 use Rattle.std.proofs.lemmas.List.{length-map, get_or_default}
 use Rattle.std.proofs.lemmas.Option.{none-some}
 use Rattle.rss_base.specs.DiskRule.{IsTold}
 use Rattle.rss_base.specs.Nodes.{IsNodePage}
 use Rattle.rss_base.specs.PageMap.{IsKey, IsSegmentOf, number_limit}
-use Rattle.rss_base.specs.Paged.{Held, Mapped, page_key, mapped_of}
+use Rattle.rss_base.specs.Paged.{Held, page_key, mapped_of}
 use Rattle.rss_base.specs.Sizes.{segments}
 use Rattle.rss_base.specs.Steps.{PagesView, no_page}
 use Rattle.rss_base.specs.Looking.{ChecksPages}
@@ -21,7 +21,7 @@ use Rattle.rss_base.specs.declared.fault.PageFault.{PageFault}
 use Rattle.rss_base.specs.declared.fault.PageFault.TheVariants.{Device as DeviceFailed}
 use Rattle.rss_base.specs.declared.key.PageKey.{PageKey}
 use Rattle.rss_base.specs.declared.key.Space.{Space}
-use Rattle.rss_base.specs.declared.key.Space.TheVariants.{Home, Overflow, Image as ImageSpace, System}
+use Rattle.rss_base.specs.declared.key.Space.TheVariants.{Image as ImageSpace}
 use Rattle.rss_base.proofs.Steps.{all_mapped, all_held, none_changed_more}
 use Rattle.rss_base.proofs.Looking.{checks_none, checks_then, checks_as}
 use Rattle.rss_tuple.specs.Directory.{bodies_of}
@@ -30,8 +30,8 @@ use Rattle.rss_catalog.specs.Catalogs.{CatalogView}
 use Rattle.rss_catalog.proofs.Numbered.{unused_none}
 use Rattle.rss_entries.proofs.Kept.{HoldsNode, image_node, one_image}
 use Rattle.rss_entries.proofs.Showing.{same_entry, at_same}
-use Rattle.rss_entries.proofs.Standing.{contained, containing}
-use Rattle.rss_model.specs.Fits.{IsLive, IsIdentifier}
+use Rattle.rss_entries.proofs.Standing.{contained}
+use Rattle.rss_model.specs.Fits.{IsIdentifier}
 use Rattle.rss_model.specs.Tables.{Tables}
 use Rattle.rss_model.specs.Store.{IsListedImage, IsReached, SpellsContents, SpellsImage, nodes_of}
 use Rattle.rss_model.proofs.ImagePages.{pages_once}
@@ -41,7 +41,6 @@ use Rattle.rss_model.proofs.Mixing.{In, in_left, in_right, in_parts}
 use Rattle.rss_access.specs.Changes.{AccessView, both}
 use Rattle.rss_access.specs.Checking.{ShowsTuples, AreWithin, IsSound, IsSoundIn, ShowsThem, ShowsNone, LooksAt}
 use Rattle.rss_access.proofs.ImageRooms.{image_used}
-use Rattle.rss_access.proofs.Looking.{heaps_looked}
 use Rattle.rss_store.specs.Checks.{AreSound, ChecksImages, MissesImages}
 use Rattle.rss_store.proofs.DifferentKeys.{AreApart, IsPageOf, apart_both, keys_few, all_found}
 
@@ -55,7 +54,6 @@ module _ {old new : PagesView} (catalog : CatalogView) (slots : new.slots ≡ ol
     counts = shows.counts;
     contents = subst (λ (h : Held). SpellsContents catalog.listing (bodies_of h) tables.contents) (sym held) shows.contents;
     tuples = shows.tuples;
-    no_links = shows.no_links;
     tids = λ relation tid lives. subst (λ (n : ℕ). IsIdentifier n tid) (sym slots) (shows.tids relation tid lives);
   }
 

@@ -1,36 +1,41 @@
 -- The definitions that a listing has, as maps from names, and that they fit.
 use Rattle.std.proofs.Common.{◌≡◌, inl, inr, ℕ, zero, suc, ◌+◌, ◌-◌, ◌<◌, ◌≤◌, true, List, [], ◌∷◌, length, get_or, refl, sym, ◌∙◌, ap, subst, arith, length-take}
-use Rattle.std.specs.Prelude.{Option, Some, None, is_some, option_map, filter_map, slice_get}
+use Rattle.std.specs.Prelude.{Option, Some, None, IfSome, is_some, option_map, option_and_then, filter_map, slice_get, sum_by, ◌≢◌, Bool, false, ◌||◌}
 use Rattle.std.specs.List.{cons_option}
 use Rattle.std.specs.FinMap as map
 use Rattle.std.specs.FinMap.{FinMap, get-empty}
-use Rattle.std.proofs.lemmas.Bool.{true≢false}
+use Rattle.std.proofs.lemmas.Bool.{cases_Bool, true≢false}
 use Rattle.std.proofs.lemmas.List.{length-map}
-use Rattle.std.proofs.lemmas.List.Sums.{count_by-le-length}
+use Rattle.std.proofs.lemmas.List.Sums.{count_by-le-length, sum_by-cons}
 use Rattle.std.proofs.lemmas.Option.{none-some, same_Some}
 use Rattle.rss_base.specs.Names.{IsName}
-use Rattle.rss_base.specs.Sizes.{segments, relations_most, images_most}
-use Rattle.rss_base.specs.Listings.{Listing, ListingFits, HasNoLinks, ImageFits as ImageEntryFits, numbered, names_of, field_numbers, segment_at, relation_at, image_at}
+use Rattle.rss_base.specs.Sizes.{segments, relations_most, images_most, links_most, roles_most}
+use Rattle.rss_base.specs.Listings.{Listing, ListingFits, ImageFits as ImageEntryFits, LinkFits as LinkEntryFits, numbered, names_of, field_numbers, segment_at, relation_at, image_at}
 use Rattle.rss_base.specs.TupleTypes.{field_names, chosen, most_key_width}
 use Rattle.rss_base.specs.declared.name.Name.{Name}
 use Rattle.rss_base.specs.declared.field.FieldDef.{FieldDef}
 use Rattle.rss_base.specs.declared.relation.RelationEntry.{RelationEntry}
 use Rattle.rss_base.specs.declared.image.ImageEntry.{ImageEntry}
-use Rattle.rss_base.specs.declared.refusal.Kind.TheVariants.{Relation as RelationKind, Image as ImageKind}
-use Rattle.rss_model.specs.Items.{name_cmp}
-use Rattle.rss_model.specs.Tables.{RelationDef, ImageDef, Definitions}
+use Rattle.rss_base.specs.declared.link.LinkEntry.{LinkEntry}
+use Rattle.rss_base.specs.declared.refusal.Kind.TheVariants.{Relation as RelationKind, Image as ImageKind, Link as LinkKind}
+use Rattle.rss_model.specs.Items.{name_cmp, is_name}
+use Rattle.rss_model.specs.Tables.{RelationDef, ImageDef, LinkDef, Definitions}
+use Rattle.rss_model.specs.Chains.{has_part, parts_of}
 use Rattle.rss_model.specs.Images.{field_number, numbers_of}
-use Rattle.rss_model.specs.Fits.{DefinitionsFit, PathsFit, RelationFits, ImageFits, is_field_of}
-use Rattle.rss_model.specs.Store.{Defines, DefinesPaths, IsListedImage, definition_of, image_definition}
-use Rattle.rss_model.proofs.Plain.{plain_paths, none_found, none_some}
-use Rattle.rss_model.proofs.PlainStores.{no_link_at, no_links_defined}
+use Rattle.rss_model.specs.Fits.{DefinitionsFit, PathsFit, RelationFits, ImageFits, LinkFits, is_field_of}
+use Rattle.rss_model.specs.Store.{Defines, DefinesPaths, IsListedImage, IsListedLink, definition_of, image_definition, link_definition, relation_name as name_at}
 use Rattle.rss_model.proofs.ByNumber.{len_listed, relations_listed}
 use Rattle.rss_model.proofs.ImageFields.{fields_are, numbers_are, width_is}
 use Rattle.rss_model.proofs.ImageRooms.{images_listed}
 use Rattle.rss_model.proofs.Listed.{IsListOf, at_place, segments_listed, listed}
 use Rattle.rss_model.proofs.Named.{made, made_here, made_other}
 use Rattle.rss_model.proofs.Relisted.{number_of}
-use Rattle.rss_model.proofs.Spelled.{name_numbered, named_relation, named_image}
+use Rattle.rss_model.proofs.Spelled.{name_numbered, named_relation, named_image, named_link, listed_link}
+use Rattle.rss_model.proofs.Prefixes.{links_listed, links_sum, parts_are}
+use Rattle.rss_model.proofs.Codes.{name_total, name_apart}
+use Rattle.rss_model.proofs.Contents.{not_tied}
+use Rattle.rss_model.proofs.LogLists.{some_of}
+use Rattle.rss_model.proofs.Counts.{one_if}
 
 -- ---- a map of a list's items by their names
 
@@ -127,15 +132,26 @@ image_of image (Some relation) = image_definition image relation
 abbrev image_def : Listing → ImageEntry → ImageDef
 image_def listing image = image_of image (relation_at listing image.relation)
 
+abbrev link_name : LinkEntry → Name
+link_name link = link.name
+
+-- a link, where the relation of its children is listed
+abbrev link_of : Listing → LinkEntry → Option RelationEntry → LinkDef
+link_of listing link None = record { parent = None; child = record { bytes = [] } }
+link_of listing link (Some child) = link_definition listing link child
+
+abbrev link_def : Listing → LinkEntry → LinkDef
+link_def listing link = link_of listing link (relation_at listing link.child)
+
 abbrev pub definitions_of : Listing → Definitions
 definitions_of listing = record {
   segments = made_of (λ (name : Name). name) (λ name. tt) listing.segments;
   relations = made_of relation_name (relation_def listing) listing.relations;
   images = made_of image_name (image_def listing) listing.images;
-  links = map.empty;
+  links = made_of link_name (link_def listing) listing.links;
 }
 
-module _ {listing : Listing} (fits : ListingFits listing) (no_links : HasNoLinks listing) where
+module _ {listing : Listing} (fits : ListingFits listing) where
   segments_apart : AreOnce {X = Unit {0}} (λ (name : Name). name) (λ name. tt) listing.segments
   segments_apart j k a b one other same = less_one (λ (name : Name). name) (λ name. tt {0}) j k
       (fits.segments_once (suc j) (suc k) a (at_place listing.segments j ∙ one) (at_place listing.segments k ∙ other ∙ ap Some (sym same)))
@@ -150,6 +166,11 @@ module _ {listing : Listing} (fits : ListingFits listing) (no_links : HasNoLinks
       (fits.paths.images_once (suc j) (suc k) a.name (name_numbered image_name listing.images (suc j) a (at_place listing.images j ∙ one))
       (name_numbered image_name listing.images (suc k) b (at_place listing.images k ∙ other) ∙ ap Some (sym same)))
 
+  links_apart : AreOnce link_name (link_def listing) listing.links
+  links_apart j k a b one other same = less_one link_name (link_def listing) j k
+      (fits.paths.links_once (suc j) (suc k) a.name (name_numbered link_name listing.links (suc j) a (at_place listing.links j ∙ one))
+      (name_numbered link_name listing.links (suc k) b (at_place listing.links k ∙ other) ∙ ap Some (sym same)))
+
   -- what has this number, by its place
   place_of_number : {A : Type 0} (items : List (Option A)) (number : ℕ) (item : A) → numbered items number ≡ Some item → (k : ℕ) × (number ≡ suc k) × (get_or items k None ≡ Some item)
   place_of_number items zero item at = absurd (none-some item at)
@@ -163,8 +184,12 @@ module _ {listing : Listing} (fits : ListingFits listing) (no_links : HasNoLinks
     only_images = λ name there.
         let at = made_only image_name (image_def listing) listing.images name there in
         (suc at.0, name_numbered image_name listing.images (suc at.0) at.1 (at_place listing.images at.0 ∙ at.2) ∙ ap Some at.3);
-    links = λ number link child is. absurd (no_link_at listing no_links number link is.at);
-    only_links = λ name there. absurd (none_some (definitions_of listing).links name refl there);
+    links = λ number link child is.
+        let place = place_of_number listing.links number link is.at in
+        made_some link_name (link_def listing) listing.links links_apart place.0 link place.2 ∙ ap (λ (found : Option RelationEntry). Some (link_of listing link found)) is.within;
+    only_links = λ name there.
+        let at = made_only link_name (link_def listing) listing.links name there in
+        (suc at.0, name_numbered link_name listing.links (suc at.0) at.1 (at_place listing.links at.0 ∙ at.2) ∙ ap Some at.3);
   }
 
   pub listing_defines : Defines listing (definitions_of listing)
@@ -243,22 +268,92 @@ module _ {listing : Listing} (fits : ListingFits listing) (no_links : HasNoLinks
         same_Some _ _ (sym (defines.paths.images has.number has.image _ (listed_image has.number has.image has.at)) ∙ ap (map.get definitions.images) has.named ∙ is) in
         subst (ImageFits definitions) same fit
 
+    -- a listed relation is defined
+    relation_there : (number : ℕ) (relation : RelationEntry) → relation_at listing number ≡ Some relation → is_some (map.get definitions.relations relation.name) ≡ true
+    relation_there number relation at = let so = listed fits defines number relation at in ap is_some (defines.relations number relation so.0 so.1)
+
+    module _ (number : ℕ) (link : LinkEntry) (child : RelationEntry) (its_link : IsListedLink listing number link child) where
+      link_entry : LinkEntryFits listing link
+      link_entry = fits.paths.links number link its_link.at
+
+      -- the relation of its parents, where it has one
+      above : (parent : ℕ) → link.parent ≡ Some parent → (relation : RelationEntry) × (relation_at listing parent ≡ Some relation)
+      above parent is = some_of (relation_at listing parent) (subst (λ (o : Option ℕ). IfSome o (λ n. (is_some (relation_at listing n) ≡ true) × (n ≢ link.child))) is link_entry.parent).0
+
+      link_fits : LinkFits definitions (link_definition listing link child)
+      link_fits = record {
+        child = relation_there link.child child its_link.within;
+        parent = defined link.parent link_entry.parent;
+        two = two link.parent link_entry.parent;
+      }
+        where
+          defined : (parent : Option ℕ) → IfSome parent (λ n. (is_some (relation_at listing n) ≡ true) × (n ≢ link.child)) → IfSome (option_and_then (name_at listing) parent) (λ name. is_some (map.get definitions.relations name) ≡ true)
+          defined None fit = tt
+          defined (Some n) fit =
+              let there = some_of (relation_at listing n) fit.0 in
+              subst (λ (o : Option RelationEntry). IfSome (option_map (λ relation. relation.name) o) (λ name. is_some (map.get definitions.relations name) ≡ true)) (sym there.1) (relation_there n there.0 there.1)
+
+          two : (parent : Option ℕ) → IfSome parent (λ n. (is_some (relation_at listing n) ≡ true) × (n ≢ link.child)) → IfSome (option_and_then (name_at listing) parent) (λ name. name ≢ child.name)
+          two None fit = tt
+          two (Some n) fit =
+              let there = some_of (relation_at listing n) fit.0 in
+              subst (λ (o : Option RelationEntry). IfSome (option_map (λ relation. relation.name) o) (λ name. name ≢ child.name)) (sym there.1)
+              (λ same. fit.1 (fits.relations_once n link.child child.name (number_of listing n there.0 there.1 ∙ ap Some same) (number_of listing link.child child its_link.within)))
+
+      -- a name that no relation has, has no part in it
+      no_part : (name : Name) → is_some (map.get definitions.relations name) ≡ false → has_part name (link_definition listing link child) ≡ false
+      no_part name none = by link.parent refl
+        where
+          other : (number : ℕ) (relation : RelationEntry) → relation_at listing number ≡ Some relation → is_name name relation.name ≡ false
+          other number relation at = not_tied name_total name_apart name relation.name (λ same. true≢false (sym (ap (λ (n : Name). is_some (map.get definitions.relations n)) same ∙ relation_there number relation at) ∙ none))
+
+          other_back : (number : ℕ) (relation : RelationEntry) → relation_at listing number ≡ Some relation → is_name relation.name name ≡ false
+          other_back number relation at = not_tied name_total name_apart relation.name name (λ same. true≢false (sym (ap (λ (n : Name). is_some (map.get definitions.relations n)) (sym same) ∙ relation_there number relation at) ∙ none))
+
+          by : (parent : Option ℕ) → link.parent ≡ parent → has_part name (record { parent = option_and_then (name_at listing) parent; child = child.name }) ≡ false
+          by None is = ap (λ (t : Bool). t || false) (other link.child child its_link.within)
+          by (Some n) is =
+              let there = above n is in
+              ap (λ (o : Option RelationEntry). has_part name (record { parent = option_map (λ relation. relation.name) o; child = child.name })) there.1
+              ∙ (λ i. other link.child child its_link.within i || other_back n there.0 there.1 i)
+
+    link_found : (name : Name) (definition : LinkDef) → map.get definitions.links name ≡ Some definition → LinkFits definitions definition
+    link_found name definition is =
+        let has = named_link listing name (defines.paths.only_links name (ap is_some is)) in
+        let so = listed_link fits has.number has.link has.at in
+        subst (LinkFits definitions) (same_Some _ _ (sym (defines.paths.links has.number has.link so.0 so.1) ∙ ap (map.get definitions.links) has.named ∙ is)) (link_fits has.number has.link so.0 so.1)
+
+    few_parts : (name : Name) → parts_of definitions name ≤ roles_most
+    few_parts name = elim (cases_Bool (is_some (map.get definitions.relations name))) [
+      | inl there ↦
+          let has = named_relation listing name (defines.only_relations name there) in
+          omega (arith, ap (parts_of definitions) (sym has.named), parts_are fits defines has.number has.relation has.at, fits.paths.few_roles has.number)
+      | inr none ↦ omega (arith, none_counted none, nothing listing.links)
+    ]
+      where
+        none_counted : is_some (map.get definitions.relations name) ≡ false → parts_of definitions name ≡ sum_by (λ (o : Option LinkEntry). 0) listing.links
+        none_counted none = links_sum fits defines (λ (d : LinkDef). one_if (has_part name d)) (λ (o : Option LinkEntry). 0) refl (λ k link child is. ap one_if (no_part k link child is name none))
+
+        nothing : (items : List (Option LinkEntry)) → sum_by (λ (o : Option LinkEntry). 0) items ≡ 0
+        nothing [] = refl
+        nothing (o ∷ items) = omega (arith, sum_by-cons (λ (o : Option LinkEntry). 0) o items, nothing items)
+
     paths_fit : PathsFit definitions
-    paths_fit =
-        let none = no_links_defined no_links defines in
-        let links_alone = plain_paths (record definitions { images = map.empty }) refl none in
-        record {
-          image_names = λ name there.
-              let has = named_image listing name (defines.paths.only_images name there) in
-              subst IsName has.named (fits.paths.images has.number has.image has.at).name;
-          few_images = few_names (names_of ImageKind listing) definitions.images images_most (images_listed defines fits)
-              (length-map listing.images (option_map image_name) ∙ fits.paths.image_places);
-          images = image_found;
-          link_names = links_alone.link_names;
-          few_links = links_alone.few_links;
-          links = λ name link is. absurd (none_found definitions.links name link none is);
-          few_parts = links_alone.few_parts;
-        }
+    paths_fit = record {
+      image_names = λ name there.
+          let has = named_image listing name (defines.paths.only_images name there) in
+          subst IsName has.named (fits.paths.images has.number has.image has.at).name;
+      few_images = few_names (names_of ImageKind listing) definitions.images images_most (images_listed defines fits)
+          (length-map listing.images (option_map image_name) ∙ fits.paths.image_places);
+      images = image_found;
+      link_names = λ name there.
+          let has = named_link listing name (defines.paths.only_links name there) in
+          subst IsName has.named (fits.paths.links has.number has.link has.at).name;
+      few_links = few_names (names_of LinkKind listing) definitions.links links_most (links_listed fits defines)
+          (length-map listing.links (option_map link_name) ∙ fits.paths.link_places);
+      links = link_found;
+      few_parts = few_parts;
+    }
 
     pub listing_fits : DefinitionsFit definitions
     listing_fits = record {

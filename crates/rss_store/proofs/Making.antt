@@ -22,7 +22,7 @@ use Rattle.rss_model.proofs.LogLists.{by_same}
 use Rattle.rss_model.proofs.Mixing.{own_here, own_off, up_skip, up_take}
 use Rattle.rss_model.proofs.Sparing.{session_changes}
 use Rattle.rss_access.proofs.Altering.{alters_leads}
-use Rattle.rss_access.specs.Changes.{IsTupleRecord, Applies, CanApply, NoneApplies, Makes}
+use Rattle.rss_access.specs.Changes.{Applies, CanApply, NoneApplies, Makes}
 use Rattle.rss_store.specs.Changing.{access, MayMake, MakesOne}
 use Rattle.rss_store.specs.Shown.{ShowsWith, Shows}
 use Rattle.rss_store.specs.Stores.{StoreView, IsReady}
@@ -78,7 +78,7 @@ module _ {old : StoreView} {told_change : told.Change} (ready : IsReady old) whe
 -- ---- what follows
 
 module _ {T : Type 0} (told_change : told.Change) (old new : StoreView) {value : T} (change_ties : ChangeTies) (makes : Makes told_change (access old) (access new) (Ok value)) (applies : Applies told_change (access old) (access new)) (root : new.root ≡ old.root) (number : new.number ≡ old.number)
-    (tuple : IsTupleRecord told_change) (counted : AreCounted new.pages) (ready : IsReady old) (told : IsTold old.pages.disk) (at t : ℕ) (appends : Appends (records.Change t told_change) at old.log new.log)
+    (counted : AreCounted new.pages) (ready : IsReady old) (told : IsTold old.pages.disk) (at t : ℕ) (appends : Appends (records.Change t told_change) at old.log new.log)
     (state : State) (change : Change) (by : change.by ≡ t) (shown : Shows old state) (may : MayMake old state told_change change) where
   abbrev over : ℕ
   over = mapped_of new.pages.mapped Overflow new.pages.slots
@@ -112,7 +112,7 @@ module _ {T : Type 0} (told_change : told.Change) (old new : StoreView) {value :
   pub makes_one : MakesOne new state change
   makes_one = record {
     over = over;
-    allowed = subst (λ (before : ℕ). MayLead (with_changes state.base (change ∷ state.changes)) change.item change.old change.new before over) (sym shown.over_is) (alters_leads tuple makes.step makes.alters told (now state) change can);
+    allowed = subst (λ (before : ℕ). MayLead (with_changes state.base (change ∷ state.changes)) change.item change.old change.new before over) (sym shown.over_is) (alters_leads (access old) (access new) told_change makes.step makes.alters told (now state) change can);
     shows = record {
       log = appended shown.log (records.Change change.by told_change) (Changed change);
       stored = shown.stored;

@@ -6,7 +6,6 @@ use Rattle.std.proofs.Math.Seq.{drop-append_seam}
 use Rattle.rss_base.specs.DiskRule.{Pages, Told, IsTold, Leaves}
 use Rattle.rss_base.specs.Sizes.{piece_bytes, system_pages}
 use Rattle.rss_base.specs.Layout.{slots_at, IsWellFormed}
-use Rattle.rss_base.specs.Listings.{HasNoLinks}
 use Rattle.rss_base.specs.Paged.{Fixed, HasFixed, mapped_of, mapped_pages}
 use Rattle.rss_base.specs.PageMap.{page_count}
 use Rattle.rss_base.specs.Steps.{PagesView, AreCounted}
@@ -84,8 +83,8 @@ counts_still old new counted counted_now slots mapped shadow =
 
 -- a call may be made again
 pub ready_now : {old new : StoreView} {next : Root} → IsReady old → IsWellFormed next → next.slots ≡ old.root.slots → next.log_pages ≡ old.root.log_pages → new.root ≡ next → new.number ≡ 3 - old.number → new.pages.backing.area ≡ next.area → new.pages.settled ≡ true → IsLogBehind next new.log
-    → new.pages.slots ≡ old.pages.slots → new.pages.mapped ≡ old.pages.mapped → new.pages.backing.log_pages ≡ old.pages.backing.log_pages → length new.catalog.pending ≡ system_pages → new.catalog.listing ≡ old.catalog.listing → CanAlter (access new) → IsReady new
-ready_now {old = old} {new = new} {next = next} ready formed same_slots same_pages root number area settled log slots mapped log_pages pending listing can = record {
+    → new.pages.slots ≡ old.pages.slots → new.pages.mapped ≡ old.pages.mapped → new.pages.backing.log_pages ≡ old.pages.backing.log_pages → length new.catalog.pending ≡ system_pages → CanAlter (access new) → IsReady new
+ready_now {old = old} {new = new} {next = next} ready formed same_slots same_pages root number area settled log slots mapped log_pages pending can = record {
   number_low = omega (arith, number, ready.number_high);
   number_high = omega (arith, number, ready.number_low);
   formed = subst IsWellFormed (sym root) formed;
@@ -96,7 +95,6 @@ ready_now {old = old} {new = new} {next = next} ready formed same_slots same_pag
   system = subst HasSystemPages (sym mapped) ready.system;
   pending_places = pending;
   settled_now = settled;
-  no_links = subst HasNoLinks (sym listing) ready.no_links;
   heaps = can.heaps;
   tables = can.tables;
 }

@@ -44,9 +44,6 @@ store_holds {pages = pages} {stored = stored} store = record {
   };
 }
 
-pub store_log : {pages : Pages} {stored : Stored} → IsStore pages stored → HoldsLog pages stored.root stored.older stored.newer
-store_log store = record { parses = store.log.parses; checkpoint = store.log.checkpoint }
-
 -- what it means, wherever it stands
 pub store_meant : {pages : Pages} {stored : Stored} → IsStore pages stored → IsMeant (held_in pages stored) stored
 store_meant {pages = pages} {stored = stored} store = record {

@@ -1,6 +1,6 @@
 -- A store in memory, as it was read from a device.
-use Rattle.std.proofs.Common.{◌≡◌, inl, inr, ℕ, ◌-◌, ◌*◌, ◌≤◌, Bool, true, not, List, length, Option, Some, None, refl, sym, ◌∙◌, ap, subst, rules, arith}
-use Rattle.std.specs.Prelude.{is_some, nat_le, IsTrue, Result}
+use Rattle.std.proofs.Common.{◌≡◌, ℕ, ◌-◌, Bool, true, not, List, length, Option, Some, None, refl, sym, ◌∙◌, ap, subst, arith}
+use Rattle.std.specs.Prelude.{is_some, Result}
 use Rattle.std.proofs.lemmas.Bool.{and_parts, leb-true, cond-false, false_from_ne_true}
 use Rattle.rss_base.specs.declared.key.Space.TheVariants.{System}
 use Rattle.rss_base.specs.declared.key.PageKey.{PageKey}
@@ -62,11 +62,6 @@ current_counted {pages = pages} {saving = saving} saveable =
     (λ i. mapped_pages (saveable.slots i) (saveable.mapped i))
     ∙ mapped_pages-owners (length saving.current) saving.current (mapped_by saving.current) saveable.table.allowed saveable.table.distinct (λ key. refl)
 
-pub room_tested : (n m pages slots : ℕ) → n ≡ pages → m ≡ slots → (IsTrue (nat_le (2 * n) m) → 2 * pages ≤ slots) × (2 * pages ≤ slots → IsTrue (nat_le (2 * n) m))
-room_tested n m pages slots same size =
-    subst (λ (p : ℕ). (IsTrue (nat_le (2 * n) m) → 2 * p ≤ slots) × (2 * p ≤ slots → IsTrue (nat_le (2 * n) m))) same
-    (subst (λ (s : ℕ). (IsTrue (nat_le (2 * n) m) → 2 * n ≤ s) × (2 * n ≤ s → IsTrue (nat_le (2 * n) m))) size (search rules))
-
 -- ---- tables
 
 -- the tables that pages hold can be told of
@@ -77,6 +72,7 @@ tables_read {slots = slots} {held = held} {new = new} {catalog = catalog} has sa
   tuples = has.fit.tuples;
   tids = λ relation tid lives. subst (λ (n : ℕ). IsIdentifier n tid) (sym same_slots) (has.fit.tids relation tid lives);
   few = has.fit.few;
+  links = has.fit.links;
   nodes = subst (λ (n : ℕ). AreNodesWithin n new.held catalog.listing) (sym same_slots) (subst (λ (h : Held). AreNodesWithin slots h catalog.listing) (sym same_held) has.nodes);
 }
 
@@ -170,10 +166,9 @@ module _ {root : Root} {number frames writes : ℕ} {owners : List (Option PageK
         log_pages = ap (λ (b : Backing). b.log_pages) did.looks.step.passes.backing ∙ log_is;
         area = ap (λ (b : Backing). b.area) did.looks.step.passes.backing ∙ ap (λ (b : Backing). b.area) fresh.backing;
         log = read.behind;
-        system = λ n low. same_mapped (page_key 0 System n) ∙ finds.loaded.loaded.mapped n low;
-        pending_places = ap (λ (l : List Bool). length l) finds.loaded.loaded.written;
+        system = λ n low. same_mapped (page_key 0 System n) ∙ finds.loaded.mapped n low;
+        pending_places = ap (λ (l : List Bool). length l) finds.loaded.written;
         settled_now = did.looks.step.passes.leaves.stays_settled fresh.settled;
-        no_links = finds.loaded.no_links;
         heaps = λ told. finds.heaps (did.looks.step.passes.leaves.told.1 told);
         tables = λ told. ∣ tables_read (finds.holds (did.looks.step.passes.leaves.told.1 told)) (did.looks.held (did.looks.step.passes.leaves.told.1 told)) did.looks.step.passes.slots ∣₁;
       }
@@ -204,12 +199,12 @@ module _ {root : Root} {number frames writes : ℕ} {owners : List (Option PageK
               shadow = new_shadow;
               slots = new_size;
               counted = counted;
-              listing = listing_once old.held finds.loaded.loaded.fits is.spells.listed (finds.loaded.loaded.holds told) (listing_here told stored store);
+              listing = listing_once old.held finds.loaded.fits is.spells.listed (finds.loaded.holds told) (listing_here told stored store);
               head = read.behind.head;
               end = read.end;
               kept = bytes told.pages told.is;
             };
-            written = λ page low off. ap (λ (h : Held). h (page_key 0 System page)) (did.looks.held told) ∙ finds.loaded.loaded.holds told page low;
+            written = λ page low off. ap (λ (h : Held). h (page_key 0 System page)) (did.looks.held told) ∙ finds.loaded.holds told page low;
             fixes = λ image fixed. store_fixed is (subst (λ (f : Fixed). HasFixed f image) (fixed_now told) fixed);
           })
 

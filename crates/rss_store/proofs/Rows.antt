@@ -1,19 +1,21 @@
 -- The tuples of all segments as a list, and the contents whose tuples these are.
 use Rattle.std.proofs.Common.{◌≡◌, ◌≢◌, ◌⊎◌, inl, inr, ⊎_elim, ℕ, suc, zero, ◌+◌, ◌*◌, ◌<◌, ◌≤◌, Bool, true, false, List, [], ◌∷◌, ◌++◌, drop, take, refl, sym, ◌∙◌, ap, subst, arith}
-use Rattle.std.specs.Prelude.{Option, Some, None, is_some, flat_map, map as list_map, count_by, ◌==◌}
+use Rattle.std.specs.Prelude.{Option, Some, None, is_some, flat_map, map as list_map, count_by, length, ◌==◌, ◌&&◌}
 use Rattle.std.specs.List.{range_with_len}
 use Rattle.std.specs.Ordering.{eq_by_cmp}
 use Rattle.std.specs.FinMap as map
 use Rattle.std.specs.FinMap.{get-empty}
 use Rattle.std.proofs.Math.Numerals.{add-one}
-use Rattle.std.proofs.lemmas.Bool.{cases_Bool, cases_eq, true≢false, cond-true, cond-false, and_parts, eqb-true}
+use Rattle.std.proofs.lemmas.Bool.{cases_Bool, cases_eq, true≢false, cond-true, cond-false, and_parts, eqb-true, leb-true, le-leb}
 use Rattle.std.proofs.lemmas.Bool.Decides.{eqb_tells}
 use Rattle.std.proofs.lemmas.List.Sums.{sum_by-append, sum_by-cons}
+use Rattle.std.proofs.lemmas.List.{take-append-drop, length-take-le, length-append, drop_at}
 use Rattle.std.proofs.lemmas.Option.{none-some, same_Some}
 use Rattle.rss_base.specs.Paged.{Held}
 use Rattle.rss_base.specs.Sizes.{segments}
 use Rattle.rss_base.specs.TupleTypes.{kinds, Spells}
 use Rattle.rss_base.specs.Listings.{Listing, ListingFits, relation_at}
+use Rattle.rss_base.specs.Prefixes.{prefix_size}
 use Rattle.rss_base.specs.declared.name.Name.{Name}
 use Rattle.rss_base.specs.declared.relation.RelationEntry.{RelationEntry}
 use Rattle.rss_base.specs.declared.tid.Tid.{Tid}
@@ -284,17 +286,19 @@ abbrev pub named_by : Listing → List ℕ → Name
 named_by listing [] = name_if None
 named_by listing (number ∷ bytes) = name_if (relation_at listing number)
 
--- what a tuple with this body holds
+-- what a tuple with this body holds: the values behind its blocks
 abbrev pub held_by : Listing → List ℕ → Content
 held_by listing [] = Values []
-held_by listing (number ∷ bytes) = held_if (relation_at listing number) bytes
+held_by listing (number ∷ bytes) = held_if (relation_at listing number) (drop (prefix_size listing.links number) bytes)
 
 -- the body is one of a relation of this segment
 pub record IsRelationBody (listing : Listing) (segment : ℕ) (body : List ℕ) : Type 0 where
   pub number : ℕ
+  pub prefix : List ℕ
   pub bytes : List ℕ
   pub relation : RelationEntry
-  pub is : body ≡ number ∷ bytes
+  pub is : body ≡ number ∷ (prefix ++ bytes)
+  pub long : length prefix ≡ prefix_size listing.links number
   pub at : relation_at listing number ≡ Some relation
   pub within : relation.segment ≡ segment
   pub spelled : Spells (kinds relation.fields) bytes (values_in (kinds relation.fields) bytes)
@@ -303,23 +307,35 @@ pub record IsRelationBody (listing : Listing) (segment : ℕ) (body : List ℕ) 
 
 pub relation_body : (listing : Listing) (segment : ℕ) (body : List ℕ) → is_body listing segment body ≡ true → IsRelationBody listing segment body
 relation_body listing segment [] good = absurd (cc)
-relation_body listing segment (number ∷ bytes) good = by (relation_at listing number) refl good
+relation_body listing segment (number ∷ rest) good = by (relation_at listing number) refl (and_parts _ _ good).1
   where
-    by : (found : Option RelationEntry) → relation_at listing number ≡ found → is_values_of found segment bytes ≡ true → IsRelationBody listing segment (number ∷ bytes)
+    room : prefix_size listing.links number ≤ length rest
+    room = leb-true (prefix_size listing.links number) (length rest) (and_parts _ _ good).0
+
+    by : (found : Option RelationEntry) → relation_at listing number ≡ found → is_values_of found segment (drop (prefix_size listing.links number) rest) ≡ true → IsRelationBody listing segment (number ∷ rest)
     by None at is = absurd (cc)
     by (Some relation) at is =
-        let parts = and_parts (relation.segment == segment) (is_spelled (kinds relation.fields) bytes) is in
+        let parts = and_parts (relation.segment == segment) (is_spelled (kinds relation.fields) (drop (prefix_size listing.links number) rest)) is in
         record {
           number = number;
-          bytes = bytes;
+          prefix = take (prefix_size listing.links number) rest;
+          bytes = drop (prefix_size listing.links number) rest;
           relation = relation;
-          is = refl;
+          is = ap (λ (l : List ℕ). number ∷ l) (sym (take-append-drop (prefix_size listing.links number) rest));
+          long = length-take-le (prefix_size listing.links number) rest room;
           at = at;
           within = eqb-true relation.segment segment parts.0;
-          spelled = values_spelled (kinds relation.fields) bytes parts.1;
+          spelled = values_spelled (kinds relation.fields) (drop (prefix_size listing.links number) rest) parts.1;
           named = ap name_if at;
-          holds = ap (λ (o : Option RelationEntry). held_if o bytes) at;
+          holds = ap (λ (o : Option RelationEntry). held_if o (drop (prefix_size listing.links number) rest)) at;
         }
+
+-- where blocks stand in front of bytes, these are looked at
+pub body_of_bytes : (listing : Listing) (segment number : ℕ) (prefix bytes : List ℕ) → length prefix ≡ prefix_size listing.links number → is_body listing segment (number ∷ (prefix ++ bytes)) ≡ is_values_of (relation_at listing number) segment bytes
+body_of_bytes listing segment number prefix bytes long =
+    let room : prefix_size listing.links number ≤ length (prefix ++ bytes) = omega (arith, long, length-append prefix bytes) in
+    ap (λ (t : Bool). t && is_values_of (relation_at listing number) segment (drop (prefix_size listing.links number) (prefix ++ bytes))) (le-leb (prefix_size listing.links number) (length (prefix ++ bytes)) room)
+    ∙ ap (is_values_of (relation_at listing number) segment) (drop_at prefix bytes (prefix_size listing.links number) long)
 
 -- ---- the contents of tuples
 

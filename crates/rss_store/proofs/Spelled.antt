@@ -49,6 +49,7 @@ module _ {old new : AccessView} (slots : new.pages.slots ≡ old.pages.slots) (l
         tuples = has.tuples;
         tids = λ relation tid lives. subst (λ (n : ℕ). IsIdentifier n tid) (sym slots) (has.tids relation tid lives);
         few = has.few;
+        links = has.links;
         nodes = subst (AreNodesWithin new.pages.slots new.pages.held) (sym listing) (nodes_still slots same has.nodes);
       }
 

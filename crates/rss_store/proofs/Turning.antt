@@ -27,10 +27,11 @@ use Rattle.rss_model.specs.Store.{SpellsTables}
 use Rattle.rss_model.proofs.Mixing.{In}
 use Rattle.rss_model.proofs.Sparing.{session_goes_back}
 use Rattle.rss_access.proofs.Altering.{alters_leads}
-use Rattle.rss_access.specs.Changes.{IsTupleRecord, reversed, turned, taken_back, CanUndo, NoneUndoes, Undoes, Makes}
-use Rattle.rss_access.proofs.Telling.{can_turned, reversed_tuple}
+use Rattle.rss_access.specs.Told.{reversed, turned}
+use Rattle.rss_access.specs.Changes.{taken_back, CanUndo, NoneUndoes, Undoes, Makes}
+use Rattle.rss_access.proofs.Telling.{can_turned}
 use Rattle.rss_restart.specs.Walks.{TellsAt}
-use Rattle.rss_restart.proofs.Moving.{meant_tuple, told_once}
+use Rattle.rss_restart.proofs.Moving.{told_once}
 use Rattle.rss_store.specs.Changing.{access, IsOwnAt, TakesBackOne}
 use Rattle.rss_store.specs.Shown.{HoldsLogged, ShowsWith, ShowsBack}
 use Rattle.rss_store.specs.Stores.{StoreView, IsReady}
@@ -79,15 +80,12 @@ module _ {old : StoreView} (turns : ChangesTurnBack) (ready : IsReady old) (stat
   told_now : IsToldBy old.catalog.listing back.told_change back.change
   told_now = told_same shown.definitions back.told
 
-  -- its record begins there, and is that of a tuple
+  -- its record begins there
   begins : BeginsWith (bytes_from old.log position) (records.Change t back.told_change) (bytes_from old.log (position + record_size (records.Change t back.told_change)))
   begins = begins_there (record { at = position; told = records.Change t back.told_change; is = Changed back.change }) shown.logged back.there
 
-  tuple : IsTupleRecord back.told_change
-  tuple = meant_tuple old.catalog.listing back.told_change back.change shown.spells.no_links told_now.means
-
   tells : TellsAt old.log position back.told_change
-  tells = record { by = t; rest = _; begins = begins; tuple = tuple }
+  tells = record { by = t; rest = _; begins = begins }
 
   same_leaves : taken_back tables back.change ≡ with_changes state.base (kept_to maker t n state.changes)
   same_leaves = ap (λ (c : Contents). record state.base { contents = c }) back.leaves
@@ -128,7 +126,7 @@ module _ {old : StoreView} (turns : ChangesTurnBack) (ready : IsReady old) (stat
 
     lead : MayLead (taken_back tables back.change) back.change.item back.change.new back.change.old way.over over
     lead = subst (λ (before : ℕ). MayLead (taken_back tables back.change) back.change.item back.change.new back.change.old before over) (sym shown.over_is)
-        (alters_leads (reversed_tuple back.told_change tuple) makes.step makes.alters on tables (turned back.change) (can_turned can_take_back))
+        (alters_leads (access old) (access new) (reversed back.told_change) makes.step makes.alters on tables (turned back.change) (can_turned can_take_back))
 
     pub takes_one : ShowsBack new state t n
     takes_one = record {

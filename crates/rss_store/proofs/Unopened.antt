@@ -110,9 +110,6 @@ refused_fault {pages = pages} PageNoMemory has half early none elsewhere = refus
 pub unopened_layout : {device : DeviceView} (fault : OpenFault) → IsLayoutFault fault → Told device.disk (λ pages. IsRefused pages fault) → IsUnopened device fault
 unopened_layout fault is why = record { refused = why; right_size = λ size. subst IsLayoutFault size is }
 
-pub unopened_device : (device : DeviceView) → IsUnopened device DeviceFailed
-unopened_device device = unopened_layout DeviceFailed tt (λ pages told. refused_device pages)
-
 pub unopened_memory : (device : DeviceView) → IsUnopened device LacksMemory
 unopened_memory device = unopened_layout LacksMemory tt (λ pages told. refused_memory pages)
 
@@ -263,10 +260,6 @@ opens_then before did is = record {
   reads = reads_then before did.reads;
   failed = λ failed. rises_since before.later (did.failed (is DeviceFailed failed));
 }
-
--- it found damage
-pub finds_damage : {T : Type 0} {old new : DeviceView} (place : Place) → OnlyReads old new → ReadsStore {T = T} old new (Err (Damaged place))
-finds_damage place reads = record { reads = reads; failed = λ is. absurd (cc (is)) }
 
 -- ---- a store that was read, and then brought to rest
 

@@ -14,7 +14,7 @@ use Rattle.rss_model.specs.Steps.{IsOver, stamp_by}
 use Rattle.rss_model.specs.Kept.{FitMixed}
 use Rattle.rss_model.specs.Restart.{OnlyBy}
 use Rattle.rss_model.specs.LogLaws.{IsToldBy, noted, gone_back, all_back}
-use Rattle.rss_access.specs.Changes.{AccessView, both, HasRoom, number_told, alter_cost, Takes}
+use Rattle.rss_access.specs.Changes.{AccessView, both, HasRoomFor, alter_cost, Takes}
 use Rattle.rss_access.specs.Written.{content_of}
 use Rattle.rss_restart.specs.Restarting.{KeepsCatalog}
 use Rattle.rss_restart.specs.Walks.{TellsAt}
@@ -85,12 +85,12 @@ pub record AltersPages {T : Type 0} (old new : StoreView) (result : Result T Pag
 
 -- where there is room, in no state in which the change may be made is anything found damaged
 abbrev pub MayNotMake : StoreView → ℕ → told.Change → Type 0
-MayNotMake view t told_change = HasRoom (access view) (number_told told_change)
+MayNotMake view t told_change = HasRoomFor (access view) told_change
     → (state : State) (change : Change) → change.by ≡ t
     → Shows view state → MayMake view state told_change change → ⊥
 
 -- nor on a way back
 abbrev pub MayNotTakeBack : StoreView → ℕ → Type 0
 MayNotTakeBack view position = (told_change : told.Change) → TellsAt view.log position told_change
-    → HasRoom (access view) (number_told told_change) → (state : State) (t n : ℕ) → IsOwnAt state t n position
+    → HasRoomFor (access view) told_change → (state : State) (t n : ℕ) → IsOwnAt state t n position
     → ShowsBack view state t (n + 1) → ⊥

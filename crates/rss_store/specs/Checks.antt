@@ -1,20 +1,26 @@
 -- What an opening finds in the pages of one segment.
-use Rattle.std.specs.Prelude.{◌≡◌, ◌==◌, ℕ, ◌^◌, ◌-◌, ◌≤◌, Bool, true, false, Some, is_some, min, List, [], ◌∷◌, length, count_by, slice_index_or}
+use Rattle.std.specs.Prelude.{◌≡◌, ◌==◌, ℕ, ◌^◌, ◌-◌, ◌≤◌, Bool, true, false, Some, None, is_some, min, List, [], ◌∷◌, length, count_by, slice_index_or}
 use Rattle.rss_base.specs.DiskRule.{IsTold}
 use Rattle.rss_base.specs.Sizes.{relations_most}
 use Rattle.rss_base.specs.Steps.{PagesView}
 use Rattle.rss_base.specs.Paged.{Held}
-use Rattle.rss_base.specs.Listings.{Listing, segment_at, relation_at}
+use Rattle.rss_base.specs.Listings.{Listing, segment_at, relation_at, link_at}
 use Rattle.rss_base.specs.declared.image.ImageEntry.{ImageEntry}
+use Rattle.rss_base.specs.declared.link.LinkEntry.{LinkEntry}
 use Rattle.rss_base.specs.declared.relation.RelationEntry.{RelationEntry}
 use Rattle.rss_base.specs.declared.key.PageKey.{PageKey}
 use Rattle.rss_base.specs.declared.key.Space.TheVariants.{Image as ImageSpace}
 use Rattle.rss_base.specs.declared.place.Place.{Place}
-use Rattle.rss_base.specs.declared.place.Place.TheVariants.{Room}
+use Rattle.rss_base.specs.declared.place.Place.TheVariants.{Room, Link as LinkPlace}
 use Rattle.rss_tuple.specs.Checked.{Row, Rows, tuples_of, IsSound, AreNoted}
+use Rattle.rss_tuple.specs.TupleSteps.{tuples_in}
 use Rattle.rss_model.specs.Fits.{tuple_limit}
 use Rattle.rss_model.specs.Tables.{Tables}
 use Rattle.rss_model.specs.Store.{IsListedImage, IsReached}
+use Rattle.rss_link.specs.declared.link.Relations.{Relations}
+use Rattle.rss_link.specs.Calls.{seen_with}
+use Rattle.rss_link.specs.Checking.{HasChains}
+use Rattle.rss_members.specs.Members.{of_parents, chains_of, listed_ends}
 use Rattle.rss_access.specs.Bodies.{is_body}
 use Rattle.rss_access.specs.Changes.{AccessView}
 use Rattle.rss_access.specs.Checking.{ShowsTuples, IsSound as IsSoundImage}
@@ -94,3 +100,32 @@ ChecksImages at = (tables : Tables) → ShowsTuples at tables → AreSound at ta
 pub record MissesImages (at : AccessView) (place : Place) : Type 0 where
   pub is_not : (tables : Tables) → ShowsTuples at tables → AreSound at tables → ⊥
   pub elsewhere : place ≡ Room → ⊥
+
+-- ---- links
+
+-- the numbers of a link's relations; there are no parents where it is unary
+abbrev pub relations_of : LinkEntry → Relations
+relations_of link = record { child = link.child; parent = of_parents (λ number. number) link.parent }
+
+-- where a link has parents, no ends of a chain are listed
+abbrev pub HasOwnEnds : LinkEntry → Type 0
+HasOwnEnds link = is_some link.parent ≡ true → (link.first ≡ None) × (link.last ≡ None)
+
+-- The bodies of a link's tuples spell its chains, with the ends that are listed where it has one chain.
+pub record HasLink (at : AccessView) (number : ℕ) (link : LinkEntry) : Type 0 where
+  pub chains : HasChains (chains_of at.catalog.listing number link) (relations_of link)
+      (seen_with (listed_ends link) (tuples_in at.pages))
+  pub no_ends : HasOwnEnds link
+
+-- it is so of each link that is listed
+abbrev pub ChecksLinks : AccessView → Type 0
+ChecksLinks at =
+    (number : ℕ) (link : LinkEntry) → link_at at.catalog.listing number ≡ Some link → HasLink at number link
+
+-- It isn't so of one of them, at which it shows.
+pub record MissesLinks (at : AccessView) (place : Place) : Type 0 where
+  pub number : ℕ
+  pub link : LinkEntry
+  pub listed : link_at at.catalog.listing number ≡ Some link
+  pub is_not : HasLink at number link → ⊥
+  pub named : place ≡ LinkPlace number

@@ -3,7 +3,7 @@ use Rattle.std.specs.Prelude.{◌≡◌, ℕ, true, is_some}
 use Rattle.rss_base.specs.DiskRule.{IsTold}
 use Rattle.rss_base.specs.Paged.{Held}
 use Rattle.rss_base.specs.Steps.{PagesView}
-use Rattle.rss_base.specs.Listings.{Listing, HasNoLinks, HoldsListing, segment_at}
+use Rattle.rss_base.specs.Listings.{Listing, HoldsListing, segment_at}
 use Rattle.rss_base.specs.declared.key.PageKey.{PageKey}
 use Rattle.rss_base.specs.declared.place.Place.{Place}
 use Rattle.rss_base.specs.declared.place.Place.TheVariants.{Room}
@@ -35,14 +35,9 @@ abbrev pub AreAllNoted : Listing → PagesView → Type 0
 AreAllNoted listing view =
     (segment : ℕ) → is_some (segment_at listing segment) ≡ true → AreNoted segment view
 
--- the pages of the system space spell a catalog, which has no links as yet
-pub record LoadsPlain (pages : PagesView) (catalog : CatalogView) : Type 0 where
-  pub loaded : Loads pages catalog
-  pub no_links : HasNoLinks catalog.listing
-
 -- The pages were looked through, and spell tables with these definitions.
 pub record FindsTables (old new : PagesView) (catalog : CatalogView) : Type 0 where
-  pub loaded : LoadsPlain old catalog
+  pub loaded : Loads old catalog
   pub only : (key : PageKey) → old.mapped key ≡ true → IsStorePage catalog.listing key
   pub holds : IsTold old.disk → HoldsTables old.held old.slots catalog.listing
   pub heaps : IsTold old.disk → AreHeaps new

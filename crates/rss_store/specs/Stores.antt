@@ -3,7 +3,6 @@ use Rattle.std.specs.Prelude.{◌≡◌, ℕ, ◌+◌, ◌<◌, ◌≤◌, true,
 use Rattle.rss_base.specs.DiskRule.{IsTold}
 use Rattle.rss_base.specs.Sizes.{system_pages}
 use Rattle.rss_base.specs.Layout.{IsWellFormed}
-use Rattle.rss_base.specs.Listings.{HasNoLinks}
 use Rattle.rss_base.specs.PageMap.{page_count}
 use Rattle.rss_base.specs.Paged.{mapped_pages}
 use Rattle.rss_base.specs.Steps.{PagesView}
@@ -37,7 +36,7 @@ pub record IsLogBehind (root : Root) (log : LogView) : Type 0 where
   pub later : root.end ≤ log.end
   pub bytes : bytes_from log (piece_start root.end) ≡ root.tail ++ appended_since root log
 
--- A call may be made. On a device that tells its contents, the pages spell some tables. As yet there are no links.
+-- A call may be made. On a device that tells its contents, the pages spell some tables.
 pub record IsReady (view : StoreView) : Type 0 where
   pub number_low : 0 < view.number
   pub number_high : view.number < 3
@@ -49,7 +48,6 @@ pub record IsReady (view : StoreView) : Type 0 where
   pub system : HasSystemPages view.pages.mapped
   pub pending_places : length view.catalog.pending ≡ system_pages
   pub settled_now : view.pages.settled ≡ true
-  pub no_links : HasNoLinks view.catalog.listing
   pub heaps : IsTold view.pages.disk → AreHeaps view.pages
   pub tables : IsTold view.pages.disk → ∥ HasTables (both view.pages view.catalog) ∥₁
 

@@ -5,7 +5,6 @@ ghost use Rattle.rss_base.specs.LogRecords.{record_size, IsChangeBounded};
 ghost use Rattle.rss_base.specs.declared.log_record.LogRecord.TheVariants as records;
 ghost use Rattle.rss_base.specs.declared.fault.PageFault.TheVariants.{Damaged};
 ghost use Rattle.rss_base.specs.declared.place.Place.{Place as AnyPlace};
-ghost use Rattle.rss_access.specs.Changes.{IsTupleRecord};
 ghost use Rattle.rss_store.specs.Changing.{MakesChange, TakesBackOne, AltersPages, MayNotMake, MayNotTakeBack};
 ghost use Rattle.rss_store.specs.Commits.{HasLogRoom};
 ghost use Rattle.rss_store.specs.Stores.{IsReady, Grows};
@@ -20,14 +19,13 @@ impl<S: Saving> DurableStore<S> {
     ghost use Rattle.rss_store.specs.Parts.{view};
 
     /// Makes a change of a transaction, and puts its record behind the others. Answers the record's
-    /// position. As yet no change of a chain may be given.
+    /// position.
     ///
-    /// It takes no memory, and two home or overflow pages at most. Where there is no room, or the tuple
-    /// isn't as the change tells it, which no device shows that tells its contents, the fault is
-    /// `Damaged`.
+    /// It takes no memory, and two home or overflow pages at most. Where there is no room, or the tuple or
+    /// its place in a chain isn't as the change tells it, which no device shows that tells its contents,
+    /// the fault is `Damaged`.
     pub fn change(&mut self, transaction: u32, change: Change) -> Result<u64, PageFault>
         requires ready { IsReady (view S.view self.old) }
-        requires tuple { IsTupleRecord change }
         requires bounded { IsChangeBounded change }
         requires room { HasLogRoom (view S.view self.old).log
             (record_size (records.Change transaction change)) (view S.view self.old).log.head }
@@ -47,11 +45,11 @@ impl<S: Saving> DurableStore<S> {
         Ok(self.log.append(&LogRecord::Change(transaction, change)))
     }
 
-    /// Undoes the change of a tuple whose record begins at this position. It takes no memory, and two
+    /// Undoes the change whose record begins at this position. It takes no memory, and two
     /// home or overflow pages at most.
     ///
     /// Where there is no room, the fault is `Damaged`; so it is where no such record begins there, or
-    /// the tuple isn't as it tells, but no device shows that which tells its contents.
+    /// the tuple or its place in a chain isn't as it tells, but no device shows that which tells its contents.
     pub fn undo(&mut self, position: u64) -> Result<(), PageFault>
         requires ready { IsReady (view S.view self.old) }
         requires low { (view S.view self.old).log.head ≤ position }

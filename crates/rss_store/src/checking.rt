@@ -1,12 +1,13 @@
 // What the pages of a store hold, as an opening finds it.
-ghost use Rattle.std.specs.Prelude.{◌≡◌, ◌≢◌, ◌+◌, ◌*◌, ◌<◌, ◌≤◌, ℕ, length, true, is_some, IfSome, IfNone, IfOk, IfErr, OnOk, Err};
+ghost use Rattle.std.specs.Prelude.{◌≡◌, ◌↔◌, IsTrue, ◌≢◌, ◌+◌, ◌*◌, ◌<◌, ◌≤◌, ℕ, length, true, false, Some, is_some, IfSome, IfNone, IfOk, IfErr, OnOk, Err};
 ghost use Rattle.rss_base.specs.DiskRule.{IsTold};
 ghost use Rattle.rss_base.specs.Looking.{ChecksPages};
 ghost use Rattle.rss_base.specs.PageMap.{IsTable, page_count};
-ghost use Rattle.rss_base.specs.Sizes.{relations_most, segments as segments_most, system_pages};
+ghost use Rattle.rss_base.specs.Sizes.{relations_most, segments as segments_most};
 ghost use Rattle.rss_base.specs.Steps.{no_page};
-ghost use Rattle.rss_base.specs.Listings.{Listing, ListingFits, HasNoLinks, HoldsListing, segment_at};
+ghost use Rattle.rss_base.specs.Listings.{ListingFits, segment_at, link_at};
 ghost use Rattle.rss_base.specs.declared.fault.PageFault.TheVariants.{Damaged as PageDamaged};
+ghost use Rattle.rss_base.specs.declared.link.LinkEntry.{LinkEntry as ALink};
 ghost use Rattle.rss_base.specs.declared.place.Place.{Place as AnyPlace};
 ghost use Rattle.rss_base.specs.declared.place.Place.TheVariants.{Count as CountPlace, Room as RoomPlace};
 ghost use Rattle.rss_base.specs.declared.key.PageKey.{PageKey as Key};
@@ -14,17 +15,22 @@ ghost use Rattle.rss_base.specs.declared.key.Space.TheVariants.{System};
 ghost use Rattle.rss_page.specs.Slotted.{IsHeapKey};
 ghost use Rattle.rss_tuple.specs.Checked.{pages_of};
 ghost use Rattle.rss_tuple.specs.Heaps.{AreHeaps};
+ghost use Rattle.rss_tuple.specs.TupleSteps.{TuplesCall, no_tuple, tuples_in};
 ghost use Rattle.rss_model.specs.Store.{IsStorePage};
-ghost use Rattle.rss_catalog.specs.Catalogs.{IsCatalogPlace};
 ghost use Rattle.rss_access.specs.Bodies.{is_body};
 ghost use Rattle.rss_access.specs.Changes.{both};
 ghost use Rattle.rss_store.specs.Checks.{AreSeen, ChecksSegment, MissesSegment, IsCountOf};
 ghost use Rattle.rss_store.specs.Checks.{ChecksSegments, MissesOne, ChecksImages, MissesImages};
-ghost use Rattle.rss_store.specs.Looks.{LoadsPlain, FindsTables, FindsNone};
+ghost use Rattle.rss_store.specs.Checks.{HasOwnEnds, HasLink, ChecksLinks, MissesLinks};
+ghost use Rattle.rss_store.specs.Looks.{FindsTables, FindsNone};
 
 use rss_access::{TUPLES_MOST, check_image};
-use rss_base::{Kind, PageFault, PageKey, Pages, Place, RELATIONS_MOST, SEGMENTS, Space, Tid};
+use rss_base::{
+    Kind, LinkEntry, PageFault, PageKey, Pages, Place, RELATIONS_MOST, SEGMENTS, Space, Tid,
+};
 use rss_catalog::Catalog;
+use rss_link::{Ends, Relations};
+use rss_members::{chains_of, prefix_len};
 use rss_pagemap::SlotTable;
 use rss_tuple::{Store, Visitor, check};
 use rss_value::spells;
@@ -32,9 +38,6 @@ use std::alloc::Global;
 
 /// How many places there are for the numbers of relations.
 pub const RELATIONS: usize = RELATIONS_MOST as usize;
-
-/// The page of the catalog that has the links.
-const LINK_PAGE: u8 = 9;
 
 /// How many pages a map has.
 pub fn pages_in(table: &SlotTable) -> u32
@@ -60,30 +63,13 @@ pub fn look_through<P: Pages>(alloc: Global, tuples: &mut Store<P>) -> Result<Ca
 {
     // Numbers of pages are below this, so none of them is the one that stands for no page.
     let _slots = tuples.pages.slots();
-    let catalog = load_catalog(alloc, &mut tuples.pages)?;
+    let catalog = Catalog::load(alloc, &mut tuples.pages)?;
     if let Some(key) = first_foreign(&tuples.pages, &catalog) {
         return Err(PageFault::Damaged(Place::Page(key)));
     }
     look_at_segments(alloc, &mut tuples.pages, &catalog)?;
+    look_at_links(tuples, &catalog)?;
     look_at_images(tuples, &catalog)?;
-    Ok(catalog)
-}
-
-/// The catalog, in which a link is damage as yet.
-fn load_catalog<P: Pages>(alloc: Global, pages: &mut P) -> Result<Catalog, PageFault>
-    ensures loaded { IfOk result (LoadsPlain (P.view pages.old)) }
-    ensures flawed { (place : AnyPlace) → result ≡ Err (PageDamaged place)
-        → IsTold (P.view pages.old).disk → (listing : Listing) → ListingFits listing
-        → HasNoLinks listing → HoldsListing (P.view pages.old).held listing → ⊥ }
-    ensures named { (place : AnyPlace) → result ≡ Err (PageDamaged place)
-        → IsCatalogPlace place }
-    ensures did { ChecksPages no_page system_pages
-        (P.view pages.old) (P.view pages.new) result }
-{
-    let catalog = Catalog::load(alloc, pages)?;
-    if catalog.last_link() != 0 {
-        return Err(PageFault::Damaged(Place::Catalog(LINK_PAGE)));
-    }
     Ok(catalog)
 }
 
@@ -163,6 +149,66 @@ fn look_at_segments<P: Pages>(
     Ok(())
 }
 
+/// Looks at each link that is listed: the bodies of its tuples spell chains, with the ends that are
+/// listed.
+fn look_at_links<P: Pages>(tuples: &mut Store<P>, catalog: &Catalog) -> Result<(), PageFault>
+    requires heaps { IsTold (P.view tuples.old.pages).disk → AreHeaps (P.view tuples.old.pages) }
+    ensures checks { OnOk result (IsTold (P.view tuples.old.pages).disk
+        → ChecksLinks (both (P.view tuples.old.pages) catalog.now)) }
+    ensures misses { (place : AnyPlace) → result ≡ Err (PageDamaged place)
+        → IsTold (P.view tuples.old.pages).disk
+        → MissesLinks (both (P.view tuples.old.pages) catalog.now) place }
+    ensures did { (most : ℕ) × ChecksPages no_page most
+        (P.view tuples.old.pages) (P.view tuples.new.pages) result }
+{
+    for place in 0..catalog.last_link() {
+        if catalog.used(Kind::Link, place + 1) && !has_chains(tuples, catalog, place + 1)? {
+            return Err(PageFault::Damaged(Place::Link(place + 1)));
+        }
+    }
+    Ok(())
+}
+
+/// Whether a link has its chains: the bodies of its tuples spell some, and no ends are listed but those
+/// of the one chain of a link without parents.
+fn has_chains<P: Pages>(
+    tuples: &mut Store<P>,
+    catalog: &Catalog,
+    number: u8,
+) -> Result<bool, PageFault>
+    requires listed { is_some (link_at catalog.now.listing number) ≡ true }
+    requires heaps { IsTold (P.view tuples.old.pages).disk → AreHeaps (P.view tuples.old.pages) }
+    ensures yes { IfOk result (λ has. has ≡ true → IsTold (P.view tuples.old.pages).disk
+        → (link : ALink) → link_at catalog.now.listing number ≡ Some link
+        → HasLink (both (P.view tuples.old.pages) catalog.now) number link) }
+    ensures no { IfOk result (λ has. has ≡ false → IsTold (P.view tuples.old.pages).disk
+        → (link : ALink) → link_at catalog.now.listing number ≡ Some link
+        → HasLink (both (P.view tuples.old.pages) catalog.now) number link → ⊥) }
+    ensures did { (most : ℕ) × TuplesCall no_page no_tuple most
+        (tuples_in (P.view tuples.old.pages)) (tuples_in (P.view tuples.new.pages)) result }
+{
+    let link = catalog.link(number);
+    if !has_own_ends(link) {
+        return Ok(false);
+    }
+    let ends = Ends {
+        first: link.first,
+        last: link.last,
+    };
+    let relations = Relations {
+        child: link.child,
+        parent: link.parent.unwrap_or(0),
+    };
+    chains_of(catalog, number).check(&ends, tuples, relations)
+}
+
+/// Whether ends are listed of no other link than one without parents.
+fn has_own_ends(link: &LinkEntry) -> bool
+    ensures { IsTrue result ↔ HasOwnEnds link.now }
+{
+    link.parent.is_none() || (link.first.is_none() && link.last.is_none())
+}
+
 /// Looks at each image that is listed: it has the entries of its relation, and together they have
 /// each page of the space of images.
 fn look_at_images<P: Pages>(tuples: &mut Store<P>, catalog: &Catalog) -> Result<(), PageFault>
@@ -217,7 +263,7 @@ impl<'a> Visitor for Census<'a> {
     ghost saw = { λ census. AreSeen census.live };
 
     fn see(&mut self, _tid: Tid, body: &[u8]) -> bool {
-        let Some((number, values)) = body.split_first() else {
+        let Some((number, rest)) = body.split_first() else {
             return false;
         };
         if *number == 0 || *number > RELATIONS_MOST {
@@ -228,8 +274,12 @@ impl<'a> Visitor for Census<'a> {
         if !self.catalog.used(Kind::Relation, *number) {
             return false;
         }
+        let blocks = prefix_len(self.catalog, *number);
+        if blocks > rest.len() {
+            return false;
+        }
         let relation = self.catalog.relation(*number);
-        relation.segment == self.segment && spells(relation.fields.as_slice(), values)
+        relation.segment == self.segment && spells(relation.fields.as_slice(), &rest[blocks..])
     }
 }
 

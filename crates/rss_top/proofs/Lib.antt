@@ -13,3 +13,7 @@ pub mod Openings
 pub mod Made
 pub mod Commands
 pub mod Written
+pub mod ScriptSize
+pub mod ScriptReading
+pub mod Counted
+pub mod Trials

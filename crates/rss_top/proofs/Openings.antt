@@ -348,12 +348,3 @@ module _ (engine : EngineView) {old : View} {before after : Stream} {source_old 
 
   pub damage_told : TellsDamage status old.world.sink after
   damage_told = tells_damage ran.passes.said line
-
--- ---- no other statuses
-
-module _ {old new : World} {source_old source_new : Stream} {status : Status} (ran : IsScriptRun status old new source_old source_new) where
-  pub not_words : status ≡ Words → ⊥
-  not_words is = subst (λ (s : Status). IsRunEnd old new source_old source_new s) is ran.cause
-
-  pub not_size : status ≡ WrongSize → ⊥
-  not_size is = subst (λ (s : Status). IsRunEnd old new source_old source_new s) is ran.cause

@@ -1,5 +1,5 @@
 -- A line that asks for no call.
-use Rattle.std.proofs.Common.{◌≡◌, ℕ, List, refl, subst, arith}
+use Rattle.std.proofs.Common.{◌≡◌, ℕ, List, refl, arith}
 use Rattle.std.specs.Prelude.{Result, Ok, Err, IsErrAnd}
 use Rattle.rss_base.specs.DiskRule.{IsTold}
 use Rattle.rss_base.proofs.Moments.{started}
@@ -69,7 +69,3 @@ module _ (names : List Variable) (engine : EngineView) (up : engine.is_up) (open
 
     pub line_cut : {S T : Type 0} {status : Status} (result : Result T Status) → IsErrAnd result (λ why. why ≡ status) → Writes {T = S} (answer_line (Err NoWords)) before after (Err status) → RunsLine (seen_with names engine before) (seen_with names engine after) line result
     line_cut {S = S} {status = status} result same wrote = passed_on {S = S} result same (record { passes = writes_on wrote; calls = omega arith; outcome = cut_in S status wrote.outcome })
-
--- memory ran out before the call, and the variables stand for what they stood for
-pub line_unplaced : {T : Type 0} {names same : List Variable} (engine : EngineView) (sink : Stream) (line : List ℕ) → names ≡ same → RunsLine {T = T} (seen_with names engine sink) (seen_with same engine sink) line (Err NoMemory)
-line_unplaced {T = T} {names = names} engine sink line is = subst (λ (l : List Variable). RunsLine {T = T} (seen_with names engine sink) (seen_with l engine sink) line (Err NoMemory)) is (line_unread (seen_with names engine sink) line)

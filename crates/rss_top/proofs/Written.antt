@@ -1,29 +1,20 @@
 -- Lines, while they are written one by one.
 use Rattle.std.proofs.Common.{◌≡◌, ℕ, ◌+◌, ◌<◌, ◌≤◌, List, [], ◌∷◌, ◌++◌, length, take, drop, refl, sym, ◌∙◌, ap, subst, arith, append_assoc}
 use Rattle.std.specs.Prelude.{slice_index_or}
-use Rattle.std.proofs.lemmas.List.{take_more, take-append-drop, take_all}
+use Rattle.std.proofs.lemmas.List.{take_more, take-append-drop}
 use Rattle.rss_base.specs.Faults.{Rises}
 use Rattle.rss_base.specs.Streams.{Stream, Takes, TakesFront}
-use Rattle.rss_base.proofs.Flows.{takes_none, takes_then}
+use Rattle.rss_base.proofs.Flows.{takes_then}
 use Rattle.rss_base.proofs.Moments.{rises_since}
 use Rattle.rss_model.specs.Script.{joined}
 use Rattle.rss_top.specs.Generated.{WritesLines}
-use Rattle.rss_top.specs.declared.status.Status.TheVariants.{Ok as Done, WriteFault, NoMemory}
+use Rattle.rss_top.specs.declared.status.Status.TheVariants.{WriteFault, NoMemory}
 use Rattle.rss_top.proofs.Stories.{joined-push}
 
 -- so many of the lines were written
 pub record Wrote (lines : List (List ℕ)) (done : ℕ) (old now : Stream) : Type 0 where
   pub later : old.faults ≤ now.faults
   pub takes : Takes old.bytes (joined (take done lines)) now.bytes
-
-pub wrote_none : (lines : List (List ℕ)) (sink : Stream) → Wrote lines 0 sink sink
-wrote_none lines sink = record { later = omega arith; takes = takes_none sink.bytes }
-
-pub wrote_all : {lines : List (List ℕ)} {old now : Stream} (done : ℕ) → length lines ≤ done → Wrote lines done old now → WritesLines lines Done old now
-wrote_all {lines = lines} {old = old} {now = now} done all wrote = record {
-  later = wrote.later;
-  ends = subst (λ (l : List (List ℕ)). Takes old.bytes (joined l) now.bytes) (take_all done lines all) wrote.takes;
-}
 
 pub wrote_lacks : {lines : List (List ℕ)} {old now : Stream} (done : ℕ) → Wrote lines done old now → WritesLines lines NoMemory old now
 wrote_lacks {lines = lines} done wrote = record {

@@ -1,5 +1,5 @@
 -- A generated script: its lines are written to a sink.
-use Rattle.std.specs.Prelude.{◌≡◌, ◌↔◌, ◌≤◌, ℕ, List, ◌++◌, Option}
+use Rattle.std.specs.Prelude.{◌≡◌, ◌⊎◌, ◌↔◌, ◌≤◌, ℕ, List, ◌++◌, Option}
 use Rattle.rss_base.specs.DiskRule.{Pages}
 use Rattle.rss_base.specs.Faults.{Rises}
 use Rattle.rss_base.specs.Streams.{Stream, Takes, TakesFront}
@@ -45,3 +45,6 @@ pub record IsGenerated (number count : ℕ) (status : Status) (old new : World)
   pub writes : WritesLines (generated number count) status old.sink new.sink
   pub device : IsUntouched old new
   pub unread : source_new ≡ source_old
+  -- Where nothing fails, all is written, or memory ran out.
+  pub complete : (Rises old.sink.faults new.sink.faults → ⊥)
+      → (status ≡ Done) ⊎ (status ≡ NoMemory)

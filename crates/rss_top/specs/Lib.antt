@@ -4,4 +4,6 @@ pub mod Lines
 pub mod Says
 pub mod Format
 pub mod Generated
+pub mod GeneratedScript
+pub mod Trial
 pub mod Programs

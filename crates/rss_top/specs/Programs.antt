@@ -5,19 +5,22 @@ use Rattle.rss_base.specs.Faults.{Rises}
 use Rattle.rss_base.specs.declared.place.Place.{Place}
 use Rattle.rss_base.specs.declared.place.Place.TheVariants.{Room, Log as LogPlace}
 use Rattle.rss_model.specs.Tables.{Tables}
+use Rattle.rss_model.specs.Generator.{generated}
 use Rattle.rss_model.specs.Machine.{StoreSize, State, IsAtRest}
 use Rattle.rss_model.specs.Plays.{plain}
 use Rattle.rss_model.specs.ReplyText.{not_a_store_line, damaged_line}
+use Rattle.rss_model.specs.Script.{joined}
 use Rattle.rss_model.specs.Store.{OpensTo, IsBrokenAt, IsOverfull, IsNoStore}
 use Rattle.rss_store.specs.Formatted.{AreSizes}
 use Rattle.rss_store.specs.Opening.{HasTables, IsSpent, HasNamed}
-use Rattle.rss_words.specs.Words.{AreRun, AreFormat, AreGenerate, IsCommand}
+use Rattle.rss_words.specs.Words.{AreRun, AreFormat, AreGenerate, AreTrial, IsCommand}
 use Rattle.rss_base.specs.Streams.{Stream}
 use Rattle.rss_top.specs.Run.{World, IsTaken, IsRun, script_limit}
 use Rattle.rss_top.specs.Lines.{IsScriptEnd}
 use Rattle.rss_top.specs.Says.{Says, TellsDamage}
 use Rattle.rss_top.specs.Format.{IsFormat}
 use Rattle.rss_top.specs.Generated.{IsGenerated}
+use Rattle.rss_top.specs.Trial.{TellsTrial}
 use Rattle.rss_top.specs.declared.status.Status.{Status}
 use Rattle.rss_top.specs.declared.status.Status.TheVariants.{Ok, Words, DeviceFault, NotAStore, Damaged, NoMemory, WrongSize}
 
@@ -132,6 +135,35 @@ pub record IsScriptRun (status : Status) (old new : World) (source_old source_ne
   pub taken : IsTaken status source_old.bytes source_new.bytes
   pub tells : TellsDamage status old.sink new.sink
 
+-- ---- a trial: a generated script, run and counted
+
+-- the world, with another sink
+abbrev pub with_sink : World → Stream → World
+with_sink world sink = record world { sink = sink }
+
+-- The script of this number and so many employees was run over the device as any other, from a source
+-- that tells it to a sink that tells the replies. In place of the replies their tally was written.
+pub record IsTrial (number count : ℕ) (status : Status) (old new : World) : Type 0 where
+  pub source_old : Stream
+  pub source_new : Stream
+  pub sink_old : Stream
+  pub sink_new : Stream
+  pub script : source_old.bytes ≡ Some (joined (generated number count))
+  pub none : sink_old.bytes ≡ Some []
+  pub replies : List ℕ
+  pub kept : sink_new.bytes ≡ Some replies
+  pub ran : Status
+  pub runs : IsScriptRun ran (with_sink old sink_old) (with_sink new sink_new)
+      source_old source_new
+  pub tells : TellsTrial ran replies status old.sink new.sink
+  -- Over a store of which the positions of the log are not used up, where nothing fails, all is run
+  -- and counted, or memory ran out.
+  pub complete : (size : StoreSize) (tables : Tables)
+      → Told old.disk (λ pages. OpensTo pages size tables
+      → ((place : Place) → IsSpent pages place → ⊥)
+      → (Rises old.sink.faults new.sink.faults → ⊥) → (Rises old.faults new.faults → ⊥)
+      → (status ≡ Ok) ⊎ (status ≡ NoMemory))
+
 -- ---- words that memory ran out for
 
 -- By the status: they ask for no size that a store can't have, or they do.
@@ -154,6 +186,9 @@ pub data IsProgram (words : List (List ℕ)) (status : Status) (old new : World)
       → IsProgram words status old new source_old source_new
   generates : {number count : ℕ} → AreGenerate words number count
       → IsGenerated number count status old new source_old source_new
+      → IsProgram words status old new source_old source_new
+  tries : {number count : ℕ} → AreTrial words number count
+      → IsTrial number count status old new → source_new ≡ source_old
       → IsProgram words status old new source_old source_new
   refuses : (IsCommand words → ⊥) → status ≡ Words → new.sink ≡ old.sink
       → IsProgram words status old new source_old source_new

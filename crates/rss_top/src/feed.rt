@@ -18,7 +18,7 @@ use std::alloc::{AllocError, Global};
 const KEPT_BYTES: usize = LINE_LIMIT + 1;
 
 /// Where the first line of these bytes ends.
-fn end_of_line(bytes: &[u8]) -> Option<usize>
+pub fn end_of_line(bytes: &[u8]) -> Option<usize>
     ensures within { IfSome result (λ at. at < length bytes.now) }
     ensures end { IfSome result (λ at. slice_index bytes.now at ≡ line_end) }
     ensures line { IfSome result (λ at. IsUnbroken (take at bytes.now)) }

@@ -10,7 +10,7 @@ use rss_line::{count_generated, generate};
 use std::alloc::{AllocError, Global};
 
 /// A line of the script with its end, by its place.
-fn whole_line(alloc: Global, number: u64, count: u32, index: u64) -> Result<Text, AllocError>
+pub fn whole_line(alloc: Global, number: u64, count: u32, index: u64) -> Result<Text, AllocError>
     requires some { 1 ≤ count }
     requires few { count ≤ most_employees }
     requires within { index < length (generated number count) }

@@ -1,9 +1,11 @@
-//! The top call: a script run over the store of a device, a device made a store, or a script
-//! generated.
+//! The top call: a script run over the store of a device, a device made a store, a script generated,
+//! or one generated, run and its replies counted.
 #![tactic(auto)]
 
+mod counting;
 mod ending;
 mod feed;
+mod generated;
 mod generating;
 mod line;
 mod making;
@@ -11,6 +13,7 @@ mod reading;
 mod running;
 mod script;
 mod status;
+mod trial;
 mod unread;
 mod writing;
 

@@ -1,6 +1,5 @@
 // One line of a script.
 ghost use Rattle.std.specs.Prelude.{◌≡◌, ◌<◌, ◌≤◌, true, [], vec_capacity, IsSome, OnOk};
-ghost use Rattle.rss_model.specs.Callers.{is_built};
 ghost use Rattle.rss_model.specs.Calls.{calls_most};
 ghost use Rattle.rss_model.specs.Defining.{DefinesNames, LocksGranule};
 ghost use Rattle.rss_model.specs.Plays.{bound};
@@ -20,7 +19,6 @@ fn ask<E: Engine>(engine: &mut E, call: &Call) -> Result<Result<Reply, Refusal>,
     requires few { (E.view engine.old).calls < calls_most }
     requires names { DefinesNames call.now }
     requires granule { LocksGranule call.now }
-    requires built { is_built call.now ≡ true }
     ensures { IsAsked (E.view engine.old) (E.view engine.new) call.now result }
 {
     match engine.call(call) {
@@ -70,7 +68,6 @@ fn make_call<E: Engine, K: Sink>(
     requires few { (E.view engine.old).calls < calls_most }
     requires names { DefinesNames call.now }
     requires granule { LocksGranule call.now }
-    requires built { is_built call.now ≡ true }
     requires place { IsSome bind → 1 ≤ names.old.room }
     requires empty { reply.old.items ≡ [] }
     requires room { line_limit ≤ vec_capacity reply.old }

@@ -1,6 +1,6 @@
 // The top call.
 ghost use Rattle.std.specs.Prelude.{◌≡◌, ℕ, map, string_bytes};
-ghost use Rattle.rss_words.specs.Words.{AreFormat, AreGenerate};
+ghost use Rattle.rss_words.specs.Words.{AreFormat, AreGenerate, AreTrial};
 ghost use Rattle.rss_top.specs.Lines.{on};
 ghost use Rattle.rss_top.specs.Programs.{IsProgram};
 
@@ -8,6 +8,7 @@ use crate::Status;
 use crate::generating::write_script;
 use crate::making::make_store;
 use crate::script::run_script;
+use crate::trial::run_trial;
 use crate::unread::unread;
 use rss_base::{Device, Sink, Source};
 use rss_words::{Command, read_command};
@@ -19,7 +20,7 @@ use std::alloc::{AllocError, Global};
 /// `run` runs a script over the store of the device. Each line of the script that isn't blank gets
 /// one reply line, which is written before the next line runs. `format` makes the device an empty
 /// store, and writes `ok`. `gen` writes a script, line by line, and touches neither the device nor
-/// the source.
+/// the source. `trial` runs that script over the store, and writes how many its replies are.
 pub fn run<O: Source, K: Sink, D: Device>(
     alloc: Global,
     words: &[String],
@@ -32,7 +33,8 @@ pub fn run<O: Source, K: Sink, D: Device>(
     // the machine's committed tables, and before its first line one of these tables or what a stop
     // could leave at entry. A device whose layout is out of form is refused, and so is a store whose
     // log's positions are used up. One that is formatted reads as an empty store, and a stop leaves
-    // nothing else. A script that is generated is written whole, where nothing fails.
+    // nothing else. A script that is generated is written whole, or run and its replies counted,
+    // where nothing fails.
     ensures program { IsProgram (map string_bytes words.now) result.0
         (on (D.view device) (K.view sink.old))
         (on (D.view result.1) (K.view sink.new))
@@ -51,6 +53,9 @@ pub fn run<O: Source, K: Sink, D: Device>(
     ensures generate_unread { (number count : ℕ)
         → AreGenerate (map string_bytes words.now) number count
         → source.new ≡ source.old }
+    ensures trial_unread { (number count : ℕ)
+        → AreTrial (map string_bytes words.now) number count
+        → source.new ≡ source.old }
 {
     match read_command(alloc, words) {
         Ok(None) => (Status::Words, device),
@@ -62,6 +67,9 @@ pub fn run<O: Source, K: Sink, D: Device>(
         }
         Ok(Some(Command::Generate { number, count })) => {
             (write_script(alloc, number, count, sink), device)
+        }
+        Ok(Some(Command::Trial { number, count })) => {
+            run_trial(alloc, number, count, sink, device)
         }
         Err(AllocError) => (unread(words), device),
     }

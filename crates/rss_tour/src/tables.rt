@@ -1,7 +1,8 @@
 // The tables that a store opens to.
-use crate::pages::SLOTS;
+ghost use Rattle.rss_model.specs.Defining.{DefinesNames, LocksGranule};
+
 use anyhow::{Result, bail, ensure};
-use rss_base::{Call, CallError, Kind, Name, Page, Refusal, Reply, Tid, Tuple, Value};
+use rss_base::{Call, CallError, Kind, Name, Page, Refusal, Reply, Tuple, Value};
 use rss_device::MemDevice;
 use rss_model::{CALLS_MOST, Engine};
 use rss_rsi::{MOST_FRAMES, open};
@@ -12,8 +13,8 @@ const RELATION: Name = Name {
     bytes: *b"r\0\0\0\0\0\0\0\0\0\0\0\0\0\0\0",
 };
 
-/// How many tuples a page holds.
-const PAGE_TUPLES: u32 = 128;
+/// A relation has no more tuples.
+const MOST_TUPLES: u32 = 1 << 20;
 
 /// The INT of a tuple of one field.
 fn int_of(tuple: &Tuple) -> Result<i64> {
@@ -23,33 +24,31 @@ fn int_of(tuple: &Tuple) -> Result<i64> {
     }
 }
 
-/// The tuple with an identifier, or none where there is no such tuple or no such relation.
-fn fetch<E: Engine>(engine: &mut E, tid: Tid) -> Result<Option<i64>> {
+/// Makes a call, if the engine may be asked for one more.
+fn ask<E: Engine>(engine: &mut E, call: &Call) -> Result<Result<Reply, CallError>>
+    requires names { DefinesNames call.now }
+    requires granule { LocksGranule call.now }
+{
     ensure!(engine.calls() < CALLS_MOST, "too many calls");
-    match engine.call(&Call::Fetch(1, RELATION, tid)) {
-        Ok(Reply::Tuple(tuple)) => Ok(Some(int_of(&tuple)?)),
-        Err(CallError::Refused(Refusal::NoTuple(_, _) | Refusal::NoSuch(Kind::Relation))) => {
-            Ok(None)
-        }
-        other => bail!("a fetch was answered {other:?}"),
-    }
+    Ok(engine.call(call))
 }
 
-/// All tuples, in the order of their identifiers. A store has no more pages than half its slots, and
-/// a new one gets the least number.
-fn fetch_all<E: Engine>(engine: &mut E, alloc: Global) -> Result<Vec<i64>> {
-    ensure!(engine.calls() < CALLS_MOST, "too many calls");
-    if let Err(error) = engine.call(&Call::Begin(1)) {
+/// All tuples, in the order of their identifiers, and none if there is no such relation.
+fn scan_all<E: Engine>(engine: &mut E, alloc: Global) -> Result<Vec<i64>> {
+    let mut values = Vec::new(alloc);
+    if let Err(error) = ask(engine, &Call::Begin(1))? {
         bail!("a begin was answered {error:?}");
     }
-    let mut values = Vec::new(alloc);
-    for place in 0..SLOTS / 2 * PAGE_TUPLES {
-        let tid = Tid {
-            page: place / PAGE_TUPLES,
-            slot: (place % PAGE_TUPLES) as u16,
-        };
-        if let Some(value) = fetch(engine, tid)? {
-            values.push(value)?;
+    let scan = match ask(engine, &Call::OpenRelation(1, RELATION))? {
+        Ok(Reply::Number(scan)) => scan,
+        Err(CallError::Refused(Refusal::NoSuch(Kind::Relation))) => return Ok(values),
+        other => bail!("a scan was answered {other:?}"),
+    };
+    for _ in 0..MOST_TUPLES {
+        match ask(engine, &Call::Next(1, scan))? {
+            Ok(Reply::Row(_, tuple)) => values.push(int_of(&tuple)?)?,
+            Ok(Reply::End) => break,
+            other => bail!("a scan was answered {other:?}"),
         }
     }
     Ok(values)
@@ -61,7 +60,7 @@ pub(crate) fn values_in(alloc: Global, pages: Vec<Page>) -> Result<Vec<i64>> {
         Ok(store) => store,
         Err(unopened) => bail!("a stop left no store: {}", unopened.fault),
     };
-    let values = fetch_all(&mut store, alloc);
+    let values = scan_all(&mut store, alloc);
     let _ = store.into_pages().into_device();
     values
 }

@@ -51,7 +51,7 @@ impl Tour {
 
     /// Tells of the opening.
     pub(crate) fn begin(&mut self, rt: &impl Print) -> Result<()> {
-        println!(rt; "{:<20}{:<16}{:<16}ones", "", "old", "new")?;
+        println!(rt; "{:<20}{:<15} {:<15} ones", "", "old", "new")?;
         println!(rt; "opening")?;
         self.tell_moments(rt)
     }
@@ -104,7 +104,7 @@ impl Tour {
     {
         let done = done_at(self.alloc, device, moment, self.writes)?;
         let [old, new, ones] = left_at(self.alloc, device, moment)?;
-        println!(rt; "    {done:<16}{old:<16}{new:<16}{ones}")?;
+        println!(rt; "    {done:<16}{old:<15} {new:<15} {ones}")?;
         if device.moment_of_write(self.writes) == Some(moment) {
             self.writes = self.writes.saturating_add(1);
         }

@@ -107,14 +107,6 @@ in_none : (change : Noted) (other : ℕ) → change.relation ≡ None → of_rel
 in_none change other e = ap (is_in other) e
 
 module _ (changes : List Noted) (change : Noted) (all : Tally) (tallies : List Tally) where
-  pub noted_none : change.relation ≡ None → length changes + 1 ≤ changes_most → AreTallies changes all tallies → AreTallies (changes ++ change ∷ []) (more_by change.is_delete all) tallies
-  noted_none e few are = record {
-    few = omega (arith, length-append changes (change ∷ []));
-    total = tally_more any changes change all refl are.total;
-    numbers = are.numbers;
-    each = λ k below. tally_same (of_relation k) changes change (get_or tallies k zero_tally) (in_none change k e) (are.each k below);
-  }
-
   pub noted_in : (relation : ℕ) → change.relation ≡ Some relation → relation < 256 → length changes + 1 ≤ changes_most → AreTallies changes all tallies → AreTallies (changes ++ change ∷ []) (more_by change.is_delete all) (set tallies relation (more_by change.is_delete (get_or tallies relation zero_tally)))
   noted_in relation e within few are = record {
     few = omega (arith, length-append changes (change ∷ []));
@@ -165,9 +157,6 @@ module _ (changes : List Noted) (change : Noted) (all : Tally) (tallies : List T
 
   pub counts_in : (relation : ℕ) → change.relation ≡ Some relation → relation < 256 → AreTallies (changes ++ change ∷ []) all tallies → (1 ≤ (get_or tallies relation zero_tally).changes) × (one_if change.is_delete ≤ (get_or tallies relation zero_tally).deletes)
   counts_in relation e within are = counts_it (of_relation relation) changes change (get_or tallies relation zero_tally) (in_itself change relation e) (are.each relation within)
-
-  pub counts_all : AreTallies (changes ++ change ∷ []) all tallies → (1 ≤ all.changes) × (one_if change.is_delete ≤ all.deletes)
-  counts_all are = counts_it any changes change all refl are.total
 
 -- a tally of a relation is read
 pub read_tally : (tallies : List Tally) (relation : ℕ) (read : Tally) → length tallies ≡ 256 → relation < 256 → read ≡ get_or tallies relation read → read ≡ get_or tallies relation zero_tally

@@ -1,5 +1,5 @@
 -- An entry of a home page, and the entry of an overflow page to which it leads.
-use Rattle.std.proofs.Common.{◌≡◌, ℕ, Bool, true, false, List, Option, Some, None, refl, sym, ◌∙◌, ap, subst}
+use Rattle.std.proofs.Common.{◌≡◌, ℕ, Bool, true, false, List, Option, Some, refl, sym, ◌∙◌, ap, subst}
 use Rattle.std.specs.Prelude.{is_some}
 use Rattle.rss_base.specs.Paged.{Held, page_key}
 use Rattle.rss_base.specs.declared.key.Space.TheVariants.{Overflow}
@@ -39,14 +39,6 @@ holds_here overflow marks is_good content body here good = record {
   good = λ other is.
       let same : body ≡ other = let both : Some body ≡ Some other = sym (ap (body_by overflow) here) ∙ is in cc in
       subst (λ (b : List ℕ). is_good b ≡ true) same good;
-}
-
--- nothing stands there
-pub holds_nothing : (overflow : Entries) (marks : List ℕ) (is_good : List ℕ → Bool) (content : Content) → content ≡ Empty → MayHold overflow marks is_good content
-holds_nothing overflow marks is_good content none = record {
-  leads = λ p s is. absurd (let never : Empty ≡ Forward p s = sym none ∙ is in cc);
-  fresh = λ p s is. absurd (let never : Empty ≡ Forward p s = sym none ∙ is in cc);
-  good = λ body is. absurd (let never : None ≡ Some body = sym (ap (body_by overflow) none) ∙ is in cc);
 }
 
 -- what the entry of a page holds

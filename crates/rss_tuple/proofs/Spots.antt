@@ -14,7 +14,7 @@ use Rattle.rss_base.specs.declared.key.Space.{Space}
 use Rattle.rss_base.specs.declared.key.Space.TheVariants.{Home, Overflow, Image, System}
 use Rattle.rss_base.specs.declared.tid.Tid.{Tid}
 use Rattle.rss_base.proofs.Keys.{is_same-itself}
-use Rattle.rss_base.proofs.Steps.{rests, then, then_call, among, within, widens, fails, is_in}
+use Rattle.rss_base.proofs.Steps.{then, then_call, among, within, widens, fails, is_in}
 use Rattle.rss_page.specs.Content.{Content, Empty, body_length}
 use Rattle.rss_page.specs.Slotted.{entries, body_bytes, HasRoom}
 use Rattle.rss_page.proofs.Contents.{length-entries}
@@ -172,14 +172,6 @@ search_ends start now wanted from so = within (λ key there. there) so.within_sl
 
 pub search_fails : {T U : Type 0} {fault : PageFault} (start now new : PagesView) (wanted : Wanted) (from number : ℕ) (result : Result U PageFault) → IsErrAnd result (λ why. why ≡ fault) → Searched start now wanted from → from ≤ number → number < start.slots → PagesCall {T = T} (only (key_of wanted number)) 1 1 now new (Err fault) → PagesCall (pages_in wanted.segment wanted.space) start.slots start.slots start new result
 search_fails start now new wanted from number result is so later low call = fails result is (λ key there. there) (omega arith) (omega arith) (then_call {asks_then = 1} {outs_then = 1} so.step (widens (is_in (key_of wanted number) refl) (omega arith) (omega arith) call))
-
-pub searched_none : (start : PagesView) (wanted : Wanted) → (IsTold start.disk → AreFormed start) → Searched start start wanted 0
-searched_none start wanted formed = record {
-  within_slots = omega arith;
-  step = rests start;
-  kept = record { mapped = refl; held = λ told. refl; changed = λ key is. is; formed = formed };
-  lesser = λ told tid low. absurd (omega arith);
-}
 
 -- a page of a segment and a space that is mapped has a number below the slots
 pub low_number : (slots : ℕ) (segment : ℕ) (space : Space) (number : ℕ) → is_noted_space space ≡ true → IsKey slots (page_key segment space number) → number < slots

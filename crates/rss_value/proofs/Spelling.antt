@@ -14,7 +14,7 @@ use Rattle.rss_base.specs.declared.value.Value.TheVariants.{Int, Text}
 use Rattle.rss_base.specs.declared.value.FieldKind.{FieldKind}
 use Rattle.rss_base.specs.declared.value.FieldKind.TheVariants.{Int as IntField, Text as TextField}
 use Rattle.rss_base.specs.declared.field.FieldDef.{FieldDef}
-use Rattle.rss_base.specs.TupleTypes.{misfit, kinds, fits, field_width, width, int_bytes, value_bytes, tuple_bytes, is_allowed_text, Spells, SpellsSome}
+use Rattle.rss_base.specs.TupleTypes.{misfit, kinds, fits, field_width, width, int_bytes, value_bytes, tuple_bytes, is_allowed_text, SpellsSome}
 use Rattle.rss_value.specs.Reads.{IsInt, IsFront, Reads}
 use Rattle.rss_value.specs.ValueRefs.{value_of}
 use Rattle.rss_value.specs.declared.value_ref.ValueRef.{ValueRef}
@@ -36,10 +36,6 @@ walk_one (field ∷ fields) bytes (v ∷ a) [] one other = absurd other
 walk_one (field ∷ fields) bytes (v ∷ a) (w ∷ b) (rest, (front, walk)) (left, (read, way)) =
     let same = front_one field bytes v w rest left front read in
     ap (λ (x : Value). x ∷ a) same.0 ∙ ap (λ (l : List Value). w ∷ l) (walk_one fields left a b (subst (λ (s : List ℕ). Walk fields s a) same.1 walk) way)
-
--- bytes spell one list of values at most
-pub spells_one : (fields : List FieldKind) (bytes : List ℕ) (a b : List Value) → Spells fields bytes a → Spells fields bytes b → a ≡ b
-spells_one fields bytes a b one other = walk_one fields bytes a b (walk_of fields bytes a one) (walk_of fields bytes b other)
 
 -- ---- how many bytes a tuple has
 

@@ -68,12 +68,6 @@ pub record Decoding (fields : List FieldKind) (bytes : List ℕ) (left : List Fi
   pub forth : (more : List Value) → Walk left rest more → Walk fields bytes (done ++ more)
   pub back : (values : List Value) → Walk fields bytes values → (more : List Value) × (values ≡ done ++ more) × Walk left rest more
 
-pub decoding_begun : (fields : List FieldKind) (bytes : List ℕ) → Decoding fields bytes fields bytes []
-decoding_begun fields bytes = record {
-  forth = λ more walk. walk;
-  back = λ values walk. (values, refl, walk);
-}
-
 -- the walk behind a value that was read
 walk_behind : (field : FieldKind) (left : List FieldKind) (rest after : List ℕ) (value : Value) (more : List Value) → IsFront field rest value after → Walk (field ∷ left) rest more
     → (others : List Value) × (more ≡ value ∷ others) × Walk left after others

@@ -1,13 +1,13 @@
 -- Words that are a command, by how many they are.
-use Rattle.std.proofs.Common.{◌≡◌, ℕ, zero, suc, ◌+◌, ◌<◌, ◌≤◌, ◌^◌, Bool, true, false, List, [], ◌∷◌, length, map, get_or, refl, sym, ap, ◌∙◌, subst, arith}
+use Rattle.std.proofs.Common.{◌≡◌, ℕ, ◌<◌, ◌≤◌, ◌^◌, false, List, [], ◌∷◌, length, map, get_or, refl, sym, ap, ◌∙◌, subst, arith}
 use Rattle.std.specs.Prelude.{◌↔◌, ◌==◌, codes, decimal, slice_index_or, IsTrue, nat_le}
 use Rattle.std.proofs.lemmas.Bool.Decides.{nat_tests}
 use Rattle.std.proofs.lemmas.Fmt.{decimal_injective}
 use Rattle.std.proofs.lemmas.List.{get_or-map}
 use Rattle.rss_model.specs.Generator.{most_employees}
-use Rattle.rss_words.specs.Words.{IsPlain, AreRun, AreFormat, AreGenerate, IsNumber, IsCount, AskFor, IsCommand}
+use Rattle.rss_words.specs.Words.{IsPlain, IsNumber, IsCount, AskFor, IsCommand}
 use Rattle.rss_words.specs.declared.command.Command.{Command}
-use Rattle.rss_words.specs.declared.command.Command.TheVariants.{Run, Format, Generate}
+use Rattle.rss_words.specs.declared.command.Command.TheVariants.{Run, Format, Generate, Trial}
 
 -- a word, by what is read of it
 pub item : {S : Type 0} (f : S → List ℕ) (words : List S) (k : ℕ) (x : S) (text : List ℕ) → k < length words → x ≡ get_or words k x → text ≡ f x → slice_index_or (map f words) k [] ≡ text
@@ -86,6 +86,23 @@ format_good words many name plain slots log_pages = record {
   };
 }
 
+pub trial_good : (words : List (List ℕ)) → length words ≡ 5 → slice_index_or words 1 [] ≡ codes "trial" → IsPlain (slice_index_or words 2 []) → IsNumber (slice_index_or words 3 []) → IsCount (slice_index_or words 4 []) → IsCommand words
+trial_good words many name plain number count = record {
+  command = Trial number.n count.n;
+  asked = record {
+    program = slice_index_or words 0 [];
+    file = slice_index_or words 2 [];
+    spelled = five words many
+        ∙ (ap (λ (w : List ℕ). slice_index_or words 0 [] ∷ w ∷ slice_index_or words 2 [] ∷ slice_index_or words 3 [] ∷ slice_index_or words 4 [] ∷ []) name
+        ∙ (ap (λ (w : List ℕ). slice_index_or words 0 [] ∷ codes "trial" ∷ slice_index_or words 2 [] ∷ w ∷ slice_index_or words 4 [] ∷ []) number.spelled
+        ∙ ap (λ (w : List ℕ). slice_index_or words 0 [] ∷ codes "trial" ∷ slice_index_or words 2 [] ∷ decimal number.n ∷ w ∷ []) count.spelled));
+    plain = plain;
+    number_fits = number.fits;
+    some = count.some;
+    few = count.few;
+  };
+}
+
 pub good_run : (words : List (List ℕ)) → length words ≡ 3 → IsCommand words → IsPlain (slice_index_or words 2 [])
 good_run words many good = asks good.command good.asked
   where
@@ -93,6 +110,7 @@ good_run words many good = asks good.command good.asked
     asks Run are = subst IsPlain (sym (ap (λ (w : List (List ℕ)). slice_index_or w 2 []) are.spelled)) are.plain
     asks (Format slots log_pages) are = absurd (distinct 3 5 refl (sym many ∙ ap length are.spelled))
     asks (Generate number count) are = absurd (distinct 3 4 refl (sym many ∙ ap length are.spelled))
+    asks (Trial number count) are = absurd (distinct 3 5 refl (sym many ∙ ap length are.spelled))
 
 pub good_generate : (words : List (List ℕ)) → length words ≡ 4 → IsCommand words → IsCount (slice_index_or words 3 [])
 good_generate words many good = asks good.command good.asked
@@ -106,9 +124,14 @@ good_generate words many good = asks good.command good.asked
       some = are.some;
       few = are.few;
     }
+    asks (Trial number count) are = absurd (distinct 4 5 refl (sym many ∙ ap length are.spelled))
 
-pub good_format : (words : List (List ℕ)) → length words ≡ 5 → IsCommand words → IsNumber (slice_index_or words 4 [])
-good_format words many good = asks good.command good.asked
+-- of five words the second says which command they are
+abbrev first_byte : List (List ℕ) → ℕ
+first_byte words = slice_index_or (slice_index_or words 1 []) 0 0
+
+pub good_format : (words : List (List ℕ)) → length words ≡ 5 → slice_index_or words 1 [] ≡ codes "format" → IsCommand words → IsNumber (slice_index_or words 4 [])
+good_format words many name good = asks good.command good.asked
   where
     asks : (command : Command) → AskFor words command → IsNumber (slice_index_or words 4 [])
     asks Run are = absurd (distinct 5 3 refl (sym many ∙ ap length are.spelled))
@@ -117,6 +140,21 @@ good_format words many good = asks good.command good.asked
       n = log_pages;
       spelled = ap (λ (w : List (List ℕ)). slice_index_or w 4 []) are.spelled;
       fits = are.log_pages_fit;
+    }
+    asks (Trial number count) are = absurd (distinct 102 116 refl (sym (ap (λ (w : List ℕ). slice_index_or w 0 0) name) ∙ ap first_byte are.spelled))
+
+pub good_trial : (words : List (List ℕ)) → length words ≡ 5 → slice_index_or words 1 [] ≡ codes "trial" → IsCommand words → IsCount (slice_index_or words 4 [])
+good_trial words many name good = asks good.command good.asked
+  where
+    asks : (command : Command) → AskFor words command → IsCount (slice_index_or words 4 [])
+    asks Run are = absurd (distinct 5 3 refl (sym many ∙ ap length are.spelled))
+    asks (Generate number count) are = absurd (distinct 5 4 refl (sym many ∙ ap length are.spelled))
+    asks (Format slots log_pages) are = absurd (distinct 116 102 refl (sym (ap (λ (w : List ℕ). slice_index_or w 0 0) name) ∙ ap first_byte are.spelled))
+    asks (Trial number count) are = record {
+      n = count;
+      spelled = ap (λ (w : List (List ℕ)). slice_index_or w 4 []) are.spelled;
+      some = are.some;
+      few = are.few;
     }
 
 -- ---- how many employees

@@ -1,9 +1,9 @@
 -- What clap makes of good words.
-use Rattle.std.proofs.Common.{◌≡◌, ℕ, ◌^◌, ◌<◌, ◌≤◌, ◌+◌, List, [], ◌∷◌, ◌++◌, refl, sym, ap, subst, ◌∙◌, true, false, map, codes, arith}
+use Rattle.std.proofs.Common.{◌≡◌, ℕ, ◌^◌, ◌<◌, ◌≤◌, ◌+◌, List, [], ◌∷◌, ◌++◌, refl, sym, ap, subst, ◌∙◌, true, false, codes, arith}
 use Rattle.std.specs.Prelude.{Option, Some, None, ◌==◌, decimal, option_map, slice_index_or}
 use Rattle.std.specs.Str.{bytes_eq}
 use Rattle.std.proofs.lemmas.Bool.Decides.{nat_tests}
-use Rattle.clap.specs.Lexer.{strip_byte, long_of, short_of}
+use Rattle.clap.specs.Lexer.{long_of, short_of}
 use Rattle.clap.specs.Words.{Row, Text, takes, first_of, subcommand_of, subcommand_rows_of, subcommand_name_of, is_simple}
 use Rattle.clap.specs.declared.parser.matches.ArgMatches.{ArgMatches}
 use Rattle.std.proofs.lemmas.Fmt.{decimal_by_steps}
@@ -11,7 +11,7 @@ use Rattle.std.proofs.lemmas.Option.{none-some, same_Some}
 use Rattle.clap.proofs.OnLiterals.{clap_on_literals}
 use Rattle.rss_words.specs.Words.{IsPlain, IsCommand, AskFor}
 use Rattle.rss_words.specs.declared.command.Command.{Command}
-use Rattle.rss_words.specs.declared.command.Command.TheVariants.{Run, Format, Generate}
+use Rattle.rss_words.specs.declared.command.Command.TheVariants.{Run, Format, Generate, Trial}
 use Rattle.rss_words.proofs.GoodWords.{distinct}
 use Rattle.rss_words.specs.Rows.{rss, Has, Finds, Tells}
 use Rattle.rss_model.specs.Generator.{most_employees}
@@ -133,6 +133,37 @@ format_log_pages program file slots log_pages value more last =
     let last_dashes = last.dashes in let last_long = last.long in let last_short = last.short in
     simp (dashes, long, short, more_dashes, more_long, more_short, last_dashes, last_long, last_short) refl
 
+abbrev trial_words : Text → Text → Text → Text → List Text
+trial_words program file number count = program ∷ codes "trial" ∷ file ∷ number ∷ count ∷ []
+
+trial_taken : (program file number count : Text) → IsValue file → IsValue number → IsValue count → takes rss (trial_words program file number count) ≡ true
+unfolding clap_on_literals
+trial_taken program file number count value more last =
+    let dashes = value.dashes in let long = value.long in let short = value.short in
+    let more_dashes = more.dashes in let more_long = more.long in let more_short = more.short in
+    let last_dashes = last.dashes in let last_long = last.long in let last_short = last.short in
+    simp (dashes, long, short, more_dashes, more_long, more_short, last_dashes, last_long, last_short) refl
+
+trial_named : (program file number count : Text) → name_in (subcommand_of rss (trial_words program file number count)) ≡ Some (codes "trial")
+unfolding clap_on_literals
+trial_named program file number count = refl
+
+trial_number : (program file number count : Text) → IsValue file → IsValue number → IsValue count → word_in (codes "NUMBER") (subcommand_of rss (trial_words program file number count)) ≡ Some (Some number)
+unfolding clap_on_literals
+trial_number program file number count value more last =
+    let dashes = value.dashes in let long = value.long in let short = value.short in
+    let more_dashes = more.dashes in let more_long = more.long in let more_short = more.short in
+    let last_dashes = last.dashes in let last_long = last.long in let last_short = last.short in
+    simp (dashes, long, short, more_dashes, more_long, more_short, last_dashes, last_long, last_short) refl
+
+trial_count : (program file number count : Text) → IsValue file → IsValue number → IsValue count → word_in (codes "COUNT") (subcommand_of rss (trial_words program file number count)) ≡ Some (Some count)
+unfolding clap_on_literals
+trial_count program file number count value more last =
+    let dashes = value.dashes in let long = value.long in let short = value.short in
+    let more_dashes = more.dashes in let more_long = more.long in let more_short = more.short in
+    let last_dashes = last.dashes in let last_long = last.long in let last_short = last.short in
+    simp (dashes, long, short, more_dashes, more_long, more_short, last_dashes, last_long, last_short) refl
+
 pub simple : is_simple rss ≡ true
 simple = refl
 
@@ -158,6 +189,8 @@ good_taken words good = asks good.command good.asked
         ∙ format_taken are.program are.file (decimal slots) (decimal log_pages) (plain_value are.file are.plain) (decimal_value slots are.slots_fit) (decimal_value log_pages are.log_pages_fit)
     asks (Generate number count) are = ap (takes rss) are.spelled
         ∙ generate_taken are.program (decimal number) (decimal count) (decimal_value number are.number_fits) (decimal_value count (omega (arith, are.few)))
+    asks (Trial number count) are = ap (takes rss) are.spelled
+        ∙ trial_taken are.program are.file (decimal number) (decimal count) (plain_value are.file are.plain) (decimal_value number are.number_fits) (decimal_value count (omega (arith, are.few)))
 
 pub good_found : (words : List Text) (command : Command) → AskFor words command → (matches : ArgMatches) → subcommand_rows_of matches ≡ subcommand_of rss words → Finds matches command
 good_found words Run are matches is =
@@ -211,6 +244,29 @@ good_found words (Generate number count) are matches is =
         are.few,
       );
     }
+good_found words (Trial number count) are matches is =
+    let entered = subcommand_of rss words in
+    let file = plain_value are.file are.plain in
+    let n = decimal_value number are.number_fits in
+    let fits : count < 2 ^ 64 = omega (arith, are.few) in
+    let c = decimal_value count fits in
+    let here = entered_by entered (codes "trial") (ap (λ (w : List Text). name_in (subcommand_of rss w)) are.spelled ∙ trial_named are.program are.file (decimal number) (decimal count)) in record {
+      name = codes "trial";
+      rows = here.rows;
+      found = is ∙ here.found;
+      tells = (
+        refl,
+        record {
+          word = word_of entered (codes "trial") (codes "NUMBER") (decimal number) here.rows here.found (ap (λ (w : List Text). word_in (codes "NUMBER") (subcommand_of rss w)) are.spelled ∙ trial_number are.program are.file (decimal number) (decimal count) file n c);
+          fits = are.number_fits;
+        },
+        record {
+          word = word_of entered (codes "trial") (codes "COUNT") (decimal count) here.rows here.found (ap (λ (w : List Text). word_in (codes "COUNT") (subcommand_of rss w)) are.spelled ∙ trial_count are.program are.file (decimal number) (decimal count) file n c);
+          fits = fits;
+        },
+        are.few,
+      );
+    }
 
 -- ---- what is told of the matches
 
@@ -238,6 +294,7 @@ pub as_run : (name : Text) (rows : List Row) (command : Command) → name ≡ co
 as_run name rows Run is tells = refl
 as_run name rows (Format slots log_pages) is tells = absurd (distinct 114 102 refl (ap first_byte (sym is ∙ tells.0)))
 as_run name rows (Generate number count) is tells = absurd (distinct 114 103 refl (ap first_byte (sym is ∙ tells.0)))
+as_run name rows (Trial number count) is tells = absurd (distinct 114 116 refl (ap first_byte (sym is ∙ tells.0)))
 
 pub record AreSizes (rows : List Row) (command : Command) : Type 0 where
   pub slots : ℕ
@@ -250,22 +307,31 @@ pub as_format : (name : Text) (rows : List Row) (command : Command) → name ≡
 as_format name rows Run is tells = absurd (distinct 102 114 refl (ap first_byte (sym is ∙ tells)))
 as_format name rows (Format slots log_pages) is tells = record { slots = slots; log_pages = log_pages; is = refl; first = tells.1; second = tells.2 }
 as_format name rows (Generate number count) is tells = absurd (distinct 102 103 refl (ap first_byte (sym is ∙ tells.0)))
+as_format name rows (Trial number count) is tells = absurd (distinct 102 116 refl (ap first_byte (sym is ∙ tells.0)))
 
-pub record AreNumbers (rows : List Row) (command : Command) : Type 0 where
+pub record AreNumbers (make : ℕ → ℕ → Command) (rows : List Row) (command : Command) : Type 0 where
   pub number : ℕ
   pub count : ℕ
-  pub is : Generate number count ≡ command
+  pub is : make number count ≡ command
   pub first : Has rows (codes "NUMBER") number
   pub second : Has rows (codes "COUNT") count
   pub few : count ≤ most_employees
 
-pub as_generate : (name : Text) (rows : List Row) (command : Command) → name ≡ codes "gen" → Tells name rows command → AreNumbers rows command
+pub as_generate : (name : Text) (rows : List Row) (command : Command) → name ≡ codes "gen" → Tells name rows command → AreNumbers Generate rows command
 as_generate name rows Run is tells = absurd (distinct 103 114 refl (ap first_byte (sym is ∙ tells)))
 as_generate name rows (Format slots log_pages) is tells = absurd (distinct 103 102 refl (ap first_byte (sym is ∙ tells.0)))
 as_generate name rows (Generate number count) is tells = record { number = number; count = count; is = refl; first = tells.1; second = tells.2; few = tells.3 }
+as_generate name rows (Trial number count) is tells = absurd (distinct 103 116 refl (ap first_byte (sym is ∙ tells.0)))
+
+pub as_trial : (name : Text) (rows : List Row) (command : Command) → name ≡ codes "trial" → Tells name rows command → AreNumbers Trial rows command
+as_trial name rows Run is tells = absurd (distinct 116 114 refl (ap first_byte (sym is ∙ tells)))
+as_trial name rows (Format slots log_pages) is tells = absurd (distinct 116 102 refl (ap first_byte (sym is ∙ tells.0)))
+as_trial name rows (Generate number count) is tells = absurd (distinct 116 103 refl (ap first_byte (sym is ∙ tells.0)))
+as_trial name rows (Trial number count) is tells = record { number = number; count = count; is = refl; first = tells.1; second = tells.2; few = tells.3 }
 
 -- what stands in no row of names is no command
-pub as_none : (name : Text) (rows : List Row) (command : Command) → (name ≡ codes "run" → ⊥) → (name ≡ codes "format" → ⊥) → (name ≡ codes "gen" → ⊥) → Tells name rows command → ⊥
-as_none name rows Run run format gen tells = run tells
-as_none name rows (Format slots log_pages) run format gen tells = format tells.0
-as_none name rows (Generate number count) run format gen tells = gen tells.0
+pub as_none : (name : Text) (rows : List Row) (command : Command) → (name ≡ codes "run" → ⊥) → (name ≡ codes "format" → ⊥) → (name ≡ codes "gen" → ⊥) → (name ≡ codes "trial" → ⊥) → Tells name rows command → ⊥
+as_none name rows Run run format gen trial tells = run tells
+as_none name rows (Format slots log_pages) run format gen trial tells = format tells.0
+as_none name rows (Generate number count) run format gen trial tells = gen tells.0
+as_none name rows (Trial number count) run format gen trial tells = trial tells.0

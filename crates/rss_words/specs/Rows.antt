@@ -6,7 +6,7 @@ use Rattle.clap.specs.declared.builder.command.Command.TheViews.{out-Command}
 use Rattle.clap.specs.declared.parser.matches.ArgMatches.{ArgMatches}
 use Rattle.rss_model.specs.Generator.{most_employees}
 use Rattle.rss_words.specs.declared.command.Command.{Command}
-use Rattle.rss_words.specs.declared.command.Command.TheVariants.{Run, Format, Generate}
+use Rattle.rss_words.specs.declared.command.Command.TheVariants.{Run, Format, Generate, Trial}
 
 -- ---- the subcommands
 
@@ -23,6 +23,10 @@ run_row = with_rule (new_app (codes "run")) (required (codes "FILE"))
 abbrev pub generate_row : App
 generate_row = with_rule (with_rule (new_app (codes "gen"))
     (required (codes "NUMBER"))) (required (codes "COUNT"))
+
+abbrev pub trial_row : App
+trial_row = with_rule (with_rule (with_rule (new_app (codes "trial"))
+    (required (codes "FILE"))) (required (codes "NUMBER"))) (required (codes "COUNT"))
 
 -- a subcommand is this row
 pub record IsRow (row : App) (command : Subcommand) : Type 0 where
@@ -41,8 +45,8 @@ bare = record (new_app (codes "rss")) {
 }
 
 abbrev pub rss : App
-rss = with_subcommand (with_subcommand (with_subcommand bare
-    format_row.top) run_row.top) generate_row.top
+rss = with_subcommand (with_subcommand (with_subcommand (with_subcommand bare
+    format_row.top) run_row.top) generate_row.top) trial_row.top
 
 -- ---- what is found
 
@@ -58,6 +62,9 @@ Tells name rows (Format slots log_pages) =
     (name ≡ codes "format") × Has rows (codes "N") slots × Has rows (codes "G") log_pages
 Tells name rows (Generate number count) =
     (name ≡ codes "gen") × Has rows (codes "NUMBER") number × Has rows (codes "COUNT") count
+    × (count ≤ most_employees)
+Tells name rows (Trial number count) =
+    (name ≡ codes "trial") × Has rows (codes "NUMBER") number × Has rows (codes "COUNT") count
     × (count ≤ most_employees)
 
 pub record Finds (matches : ArgMatches) (command : Command) : Type 0 where

@@ -2,7 +2,7 @@
 use Rattle.std.specs.Prelude.{◌≡◌, ◌≢◌, ℕ, ◌^◌, ◌<◌, ◌≤◌, List, [], ◌∷◌, Option, Some, None, codes, decimal, ⊤}
 use Rattle.rss_model.specs.Generator.{most_employees}
 use Rattle.rss_words.specs.declared.command.Command.{Command}
-use Rattle.rss_words.specs.declared.command.Command.TheVariants.{Run, Format, Generate}
+use Rattle.rss_words.specs.declared.command.Command.TheVariants.{Run, Format, Generate, Trial}
 
 abbrev pub hyphen : ℕ
 hyphen = 45
@@ -38,6 +38,17 @@ pub record AreGenerate (words : List (List ℕ)) (number count : ℕ) : Type 0 w
   pub some : 1 ≤ count
   pub few : count ≤ most_employees
 
+-- `trial`, a file, and the number and the count of a `gen`
+pub record AreTrial (words : List (List ℕ)) (number count : ℕ) : Type 0 where
+  pub program : List ℕ
+  pub file : List ℕ
+  pub spelled : words
+      ≡ program ∷ codes "trial" ∷ file ∷ decimal number ∷ decimal count ∷ []
+  pub plain : IsPlain file
+  pub number_fits : number < 2 ^ 64
+  pub some : 1 ≤ count
+  pub few : count ≤ most_employees
+
 -- a number
 pub record IsNumber (word : List ℕ) : Type 0 where
   pub n : ℕ
@@ -56,6 +67,7 @@ abbrev pub AskFor : List (List ℕ) → Command → Type 0
 AskFor words Run = AreRun words
 AskFor words (Format slots log_pages) = AreFormat words slots log_pages
 AskFor words (Generate number count) = AreGenerate words number count
+AskFor words (Trial number count) = AreTrial words number count
 
 -- they ask for something
 pub record IsCommand (words : List (List ℕ)) : Type 0 where
@@ -73,4 +85,6 @@ Reads words None = IsCommand words → ⊥
 pub data IsFileOf (words : List (List ℕ)) (file : List ℕ) : Type 0 where
   run : (are : AreRun words) → file ≡ are.file → IsFileOf words file
   format : {slots log_pages : ℕ} → (are : AreFormat words slots log_pages) → file ≡ are.file
+      → IsFileOf words file
+  trial : {number count : ℕ} → (are : AreTrial words number count) → file ≡ are.file
       → IsFileOf words file

@@ -15,6 +15,8 @@ pub enum Command {
     Format { slots: u64, log_pages: u64 },
     /// A script is generated.
     Generate { number: u64, count: u32 },
+    /// A script is generated and run over the store of a file, and its replies are counted.
+    Trial { number: u64, count: u32 },
 }
 
 /// The command of these words, the program's own name first. Words that are none are told as such

@@ -13,11 +13,15 @@ pub fn are_good(words: &[String]) -> bool
         [_, name, number, count] => {
             name.as_str() == "gen" && (is_number(number.as_str()) && is_count(count.as_str()))
         }
-        [_, name, file, slots, log_pages] => {
-            name.as_str() == "format"
-                && (is_plain(file.as_str())
-                    && (is_number(slots.as_str()) && is_number(log_pages.as_str())))
-        }
+        [_, name, file, first, second] => match name.as_str() {
+            "format" => {
+                is_plain(file.as_str()) && (is_number(first.as_str()) && is_number(second.as_str()))
+            }
+            "trial" => {
+                is_plain(file.as_str()) && (is_number(first.as_str()) && is_count(second.as_str()))
+            }
+            _ => false,
+        },
         _ => false,
     }
 }

@@ -32,7 +32,7 @@ pub fn format_sizes(words: &[String]) -> Option<(u64, u64)>
         return None;
     }
     match words {
-        [_, _, _, slots, log_pages] => {
+        [_, name, _, slots, log_pages] if name.as_str() == "format" => {
             let slots = read_number(slots.as_str())?;
             let log_pages = read_number(log_pages.as_str())?;
             Some((slots, log_pages))

@@ -3,7 +3,7 @@ ghost use Rattle.std.specs.Prelude.{◌≡◌, ℕ, ◌≤◌, false, Some, IfOk
 ghost use Rattle.clap.specs.Words.{found_of, rows_of, rule_of, app_of};
 ghost use Rattle.rss_model.specs.Generator.{most_employees};
 ghost use Rattle.rss_words.specs.Words.{IsCommand, AskFor};
-ghost use Rattle.rss_words.specs.Rows.{required, IsRow, format_row, run_row, generate_row, bare, rss, Has, Finds};
+ghost use Rattle.rss_words.specs.Rows.{required, IsRow, format_row, run_row, generate_row, trial_row, bare, rss, Has, Finds};
 
 use crate::command::Command;
 use clap::error::ErrorKind;
@@ -42,6 +42,15 @@ fn generate_row<'a>(alloc: Global) -> Result<clap::Command<'a>, AllocError>
         .arg(word(alloc, "COUNT"))
 }
 
+fn trial_row<'a>(alloc: Global) -> Result<clap::Command<'a>, AllocError>
+    ensures { IfOk result (IsRow trial_row) }
+{
+    clap::Command::new(alloc, "trial")
+        .arg(word(alloc, "FILE"))?
+        .arg(word(alloc, "NUMBER"))?
+        .arg(word(alloc, "COUNT"))
+}
+
 /// The program without its subcommands, one of which is to be there.
 fn bare<'a>(alloc: Global) -> clap::Command<'a>
     ensures { app_of result ≡ bare }
@@ -60,7 +69,8 @@ fn rss<'a>(alloc: Global) -> Result<clap::Command<'a>, AllocError>
     bare(alloc)
         .subcommand(format_row(alloc)?)?
         .subcommand(run_row(alloc)?)?
-        .subcommand(generate_row(alloc)?)
+        .subcommand(generate_row(alloc)?)?
+        .subcommand(trial_row(alloc)?)
 }
 
 /// The command of good words. clap refuses them for want of memory alone.
@@ -93,6 +103,10 @@ fn command_of(matches: &ArgMatches) -> Option<Command>
             log_pages: number_in(values, "G")?,
         }),
         "gen" => Some(Command::Generate {
+            number: number_in(values, "NUMBER")?,
+            count: count_in(values, "COUNT")?,
+        }),
+        "trial" => Some(Command::Trial {
             number: number_in(values, "NUMBER")?,
             count: count_in(values, "COUNT")?,
         }),

@@ -8,4 +8,4 @@ a_name : (letter : ℕ) → 97 ≤ letter → letter ≤ 122 → IsName (record 
 a_name letter low high = record { first = letter; rest = []; bytes = refl; letter = (low, high); each = search rules; few = omega arith }
 
 pub ask-requires : goal.ask-requires
-ask-requires g c = record { names = a_name 115 (omega arith) (omega arith); granule = tt; built = refl }
+ask-requires g c = record { names = a_name 115 (omega arith) (omega arith); granule = tt }

@@ -62,7 +62,7 @@ returns-then-not-branch-clause-none g c = λ place is told tables image relation
     let found = found_here (both (g.P.Pages.view c.args.tuples.now.pages) c.args.catalog.now) (subst (λ (n : ℕ). n < 4294967296) c.slots-slots.ensures c.slots-slots.type_inv) (g.met.P.Pages.holds c.args.tuples.now.pages told) (g.met.P.Pages.allowed c.args.tuples.now.pages)
     c.args.number c.image.result.now c.relation-relation.result.now c.image.ensures.is c.image.ensures.safe c.relation-relation.ensures.is c.relation-relation.ensures.safe c.image_width.ensures.places c.image_width.ensures.is c.as_slice.ensures c.from.ensures tables image relation shows listed sound in
     let step = c.in_ok-census.ensures.did.1.step in
-    c.in_ok-has_entries.ensures.none c.if-not-branch.true (step.passes.leaves.told.0 told) (λ tid. tuple_then step told _ _ tid _ (found.entries tid))
+    c.in_ok-has_entries.ensures.none c.if-not-branch.true (step.passes.leaves.told.0 told) (λ tid. tuple_then step told _ _ _ tid _ (found.entries tid))
 
 pub returns-then-not-branch-clause-did : goal.returns-then-not-branch-clause-did
 returns-then-not-branch-clause-did g c = record {
@@ -78,7 +78,7 @@ returns-clause-shows g c = λ told.
     shows_here (both (g.P.Pages.view c.args.tuples.now.pages) c.args.catalog.now) (subst (λ (n : ℕ). n < 4294967296) c.slots-slots.ensures c.slots-slots.type_inv) (g.met.P.Pages.holds c.args.tuples.now.pages told) (g.met.P.Pages.allowed c.args.tuples.now.pages)
     c.args.number c.image.result.now c.relation-relation.result.now c.image.ensures.is c.image.ensures.safe c.relation-relation.ensures.is c.relation-relation.ensures.safe c.image_width.ensures.places c.image_width.ensures.is c.as_slice.ensures c.from.ensures c.in-Some.census
     ((rw c.in-Some.is at c.in_ok-census.ensures.sound) told) (c.if-census-from.false ∙ c.from-2.ensures) (c.is_doubled.ensures.no c.if-is_doubled.false)
-    (λ tid. tuple_back step told _ _ tid _ (c.in_ok-has_entries.ensures.all c.if-not-branch.false (step.passes.leaves.told.0 told) tid))
+    (λ tid. tuple_back step told _ _ _ tid _ (c.in_ok-has_entries.ensures.all c.if-not-branch.false (step.passes.leaves.told.0 told) tid))
 
 pub returns-clause-heaps : goal.returns-clause-heaps
 returns-clause-heaps g c = λ told.

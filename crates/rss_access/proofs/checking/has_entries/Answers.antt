@@ -19,7 +19,7 @@ returns-in_err-has_entry-clause-did g c = (c.loop-tid.invariant.most + (g.P.Page
 pub returns-then-not-branch-clause-none : goal.returns-then-not-branch-clause-none
 returns-then-not-branch-clause-none g c = λ is told all.
     let before = then c.loop-tid.invariant.step c.in_ok-tid.ensures.did.below.step in
-    c.in_ok-has_entry.ensures.lacks c.if-not-branch.true (before.passes.leaves.told.0 told) (tuple_then before told (kinds_of c.args.key) c.args.number c.in-Some.tid c.args.image.now (all c.in-Some.tid))
+    c.in_ok-has_entry.ensures.lacks c.if-not-branch.true (before.passes.leaves.told.0 told) (tuple_then before told c.args.catalog.now.listing (kinds_of c.args.key) c.args.number c.in-Some.tid c.args.image.now (all c.in-Some.tid))
 
 pub returns-then-not-branch-clause-did : goal.returns-then-not-branch-clause-did
 returns-then-not-branch-clause-did g c = (_, done _ (then (then c.loop-tid.invariant.step c.in_ok-tid.ensures.did.below.step) c.in_ok-has_entry.ensures.did.1.step))

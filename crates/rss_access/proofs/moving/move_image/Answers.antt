@@ -1,5 +1,5 @@
 -- The move is given the image of the catalog's entry, and the values that the change tells; the catalog lists its root then.
-use Rattle.std.proofs.Common.{◌≡◌, ℕ, sym, ◌∙◌, ap, arith}
+use Rattle.std.proofs.Common.{◌≡◌, ℕ, refl, sym, ◌∙◌, ap, arith}
 use Rattle.std.specs.Prelude.{Some}
 use Rattle.std.proofs.Math.Logic.{∥∥₁_map}
 use Rattle.std.proofs.lemmas.Option.{same_Some}
@@ -11,10 +11,10 @@ use Rattle.rss_image.specs.declared.image.Image.{Image}
 use Rattle.rss_entries.specs.Images.{image_of, key_of}
 use Rattle.rss_entries.specs.Moving.{KeyKinds}
 use Rattle.rss_access.specs.declared.edit.TupleChange.{TupleChange}
-use Rattle.rss_access.specs.Changes.{number_told}
+use Rattle.rss_access.specs.Told.{number_told}
 use Rattle.rss_access.specs.Edits.{told_by}
 use Rattle.rss_access.specs.Moved.{IsImageOf}
-use Rattle.rss_access.proofs.ImageMoves.{Passes, number_lent, tid_lent, held_low, was_given, next_given, own_relation, its_pages, may_be_moved, shows_one_more, nodes_one_more}
+use Rattle.rss_access.proofs.ImageMoves.{Passes, number_lent, tid_lent, held_low, was_given, next_given, own_relation, its_pages, may_be_moved, shows_one_more, nodes_one_more, entry_stays}
 use Rattle.rss_access.proofs.Looking.{key_width_passed}
 use Rattle.rss_access.proofs.moving.move_image.Goals as goal
 
@@ -60,7 +60,7 @@ returns-clause-moves g c = λ disk move tables shows.
     (record { before = c.was.ensures; after = c.next.ensures })
     (its_passes c.args.change listed.at.at c.requires.of (c.key_fields-key.ensures.is listed.image listed.relation listed.at) (c.image_of-image.ensures.is listed.image listed.relation listed.at))
     low move tables shows disk new_low (g.met.P.Pages.are_counted c.args.pages.now) (g.met.P.Pages.are_counted c.move_entry.new.pages) step
-    c.move_entry.new.image c.in_ok-move_entry.ensures.of (c.in_ok-move_entry.ensures.moves disk) (c.reroot.ensures listed.image listed.at.at)
+    c.move_entry.new.image c.in_ok-move_entry.ensures.of (c.in_ok-move_entry.ensures.moves disk) (c.reroot.ensures.reroots listed.image listed.at.at)
 
 pub returns-clause-nodes : goal.returns-clause-nodes
 returns-clause-nodes g c = λ disk move tables shows.
@@ -72,10 +72,10 @@ returns-clause-nodes g c = λ disk move tables shows.
     (record { before = c.was.ensures; after = c.next.ensures })
     (its_passes c.args.change listed.at.at c.requires.of (c.key_fields-key.ensures.is listed.image listed.relation listed.at) (c.image_of-image.ensures.is listed.image listed.relation listed.at))
     low move tables shows disk new_low (g.met.P.Pages.are_counted c.args.pages.now) (g.met.P.Pages.are_counted c.move_entry.new.pages) step
-    c.move_entry.new.image c.in_ok-move_entry.ensures.of (c.in_ok-move_entry.ensures.moves disk) (c.reroot.ensures listed.image listed.at.at) (c.in_ok-move_entry.ensures.made disk)
+    c.move_entry.new.image c.in_ok-move_entry.ensures.of (c.in_ok-move_entry.ensures.moves disk) (c.reroot.ensures.reroots listed.image listed.at.at) (c.in_ok-move_entry.ensures.made disk)
 
 pub returns-clause-rerooted : goal.returns-clause-rerooted
-returns-clause-rerooted g c = let listed = c.image_of-image.ensures.listed in (c.reroot.ensures listed.image listed.at.at).rerooted
+returns-clause-rerooted g c = let listed = c.image_of-image.ensures.listed in (c.reroot.ensures.reroots listed.image listed.at.at).rerooted
 
 pub returns-in_err-move_entry-clause-did : goal.returns-in_err-move_entry-clause-did
 returns-in_err-move_entry-clause-did g c =
@@ -86,3 +86,18 @@ pub returns-clause-did : goal.returns-clause-did
 returns-clause-did g c =
     let listed = c.image_of-image.ensures.listed in
     done tt (among (its_pages c.args.catalog.now.listing c.args.number c.args.change.number listed.image listed.relation (c.image_of-image.ensures.is listed.image listed.relation listed.at) (own_relation listed.at c.requires.of)) c.in_ok-move_entry.ensures.did.step)
+
+pub returns-in_err-move_entry-clause-stays : goal.returns-in_err-move_entry-clause-stays
+returns-in_err-move_entry-clause-stays g c = λ keeps.
+    let listed = c.image_of-image.ensures.listed in
+    let stays = entry_stays c.args.change listed.at c.requires.of (c.key_fields-key.ensures.is listed.image listed.relation listed.at) (c.requires.values listed.relation (own_relation listed.at c.requires.of))
+    (record { before = c.was.ensures; after = c.next.ensures }) keeps c.in_err-move_entry.ensures.stays in
+    record { pages = stays.pages; catalog = refl }
+
+pub returns-clause-stays : goal.returns-clause-stays
+returns-clause-stays g c = λ keeps.
+    let listed = c.image_of-image.ensures.listed in
+    let stays = entry_stays c.args.change listed.at c.requires.of (c.key_fields-key.ensures.is listed.image listed.relation listed.at) (c.requires.values listed.relation (own_relation listed.at c.requires.of))
+    (record { before = c.was.ensures; after = c.next.ensures }) keeps c.in_ok-move_entry.ensures.stays in
+    let same : c.move_entry.new.image ≡ image_of c.args.number listed.image listed.relation = stays.image ∙ c.image_of-image.ensures.is listed.image listed.relation listed.at in
+    record { pages = stays.pages; catalog = c.reroot.ensures.same listed.image listed.at.at (ap (λ (i : Image). i.root) (sym same)) (ap (λ (i : Image). i.levels) (sym same)) }

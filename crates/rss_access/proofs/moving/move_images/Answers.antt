@@ -1,5 +1,5 @@
 -- Each image comes to show the tables after the change, and behind the last one there are none.
-use Rattle.std.proofs.Common.{ℕ, ap, subst, arith}
+use Rattle.std.proofs.Common.{ℕ, refl, ap, subst, arith}
 use Rattle.std.specs.Prelude.{List, Option}
 use Rattle.std.proofs.Math.Logic.{∥∥₁_map}
 use Rattle.rss_base.specs.Listings.{numbered, relation_at}
@@ -10,7 +10,7 @@ use Rattle.rss_catalog.specs.Catalogs.{CatalogView}
 use Rattle.rss_access.specs.Changes.{image_pages_of}
 use Rattle.rss_access.specs.Moved.{image_cost}
 use Rattle.rss_access.specs.Relisted.{Rerooted}
-use Rattle.rss_access.proofs.ImageMoves.{shows_none_yet, shows_them_all}
+use Rattle.rss_access.proofs.ImageMoves.{shows_none_yet, shows_them_all, stays_then}
 use Rattle.rss_access.proofs.Rerooting.{rerooted_itself}
 use Rattle.rss_access.proofs.Rooted.{rerooted_then}
 use Rattle.rss_access.proofs.moving.move_images.Goals as goal
@@ -25,6 +25,7 @@ loop-place-init g c = record {
   step = rests (g.P.Pages.view c.args.pages.now);
   shows = λ disk move tables shows. shows_none_yet shows;
   nodes = λ disk move tables shows slots named within. within;
+  stays = λ keeps. record { pages = rests (g.P.Pages.view c.args.pages.now); catalog = refl };
 }
 
 pub move_at-requires-clause-may : goal.move_at-requires-clause-may
@@ -44,8 +45,12 @@ loop-place-preserved g c = record {
   shows = λ disk move tables shows. c.in_ok-move_at.ensures.moves (c.loop-place.invariant.step.passes.leaves.told.0 disk) move tables (c.loop-place.invariant.shows disk move tables shows);
   nodes = λ disk move tables shows slots named within.
       c.in_ok-move_at.ensures.nodes (c.loop-place.invariant.step.passes.leaves.told.0 disk) move tables (c.loop-place.invariant.shows disk move tables shows) slots named (c.loop-place.invariant.nodes disk move tables shows slots named within);
+  stays = λ keeps. stays_then (c.loop-place.invariant.stays keeps) keeps c.in_ok-move_at.ensures.stays;
 }
 
 pub returns-clause-moves : goal.returns-clause-moves
 returns-clause-moves g c = λ disk move tables shows.
     shows_them_all c.loop-place.invariant.rerooted c.last_image-place-end.ensures.none (omega arith) (c.loop-place.invariant.shows disk move tables shows)
+
+pub returns-in_err-move_at-clause-stays : goal.returns-in_err-move_at-clause-stays
+returns-in_err-move_at-clause-stays g c = λ keeps. stays_then (c.loop-place.invariant.stays keeps) keeps c.in_err-move_at.ensures.stays

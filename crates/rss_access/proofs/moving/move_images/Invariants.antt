@@ -7,7 +7,7 @@ use Rattle.rss_model.specs.Tables.{Tables}
 use Rattle.rss_entries.specs.Images.{TupleMove}
 use Rattle.rss_access.specs.Changes.{both, image_pages_of, AllNodesStay, ShowsMove}
 use Rattle.rss_access.specs.Edits.{told_by}
-use Rattle.rss_access.specs.Moved.{image_cost, ShowsMoveBelow}
+use Rattle.rss_access.specs.Moved.{image_cost, KeepsKeys, ShowsMoveBelow, StaysAsItWas}
 use Rattle.rss_access.specs.Relisted.{Rerooted}
 use Rattle.rss_access.proofs.moving.move_images.Given as goal
 
@@ -18,4 +18,5 @@ invariant-loop-place g l = record {
   shows : IsTold (g.P.Pages.view l.fn.pages).disk → (move : TupleMove) (tables : Tables) → ShowsMove (both (g.P.Pages.view l.fn.pages) l.fn.catalog) (told_by l.fn.change) move tables
       → ShowsMoveBelow (l.place + 1) (both (g.P.Pages.view l.pages) l.catalog) (told_by l.fn.change) move tables;
   nodes : IsTold (g.P.Pages.view l.fn.pages).disk → AllNodesStay (both (g.P.Pages.view l.fn.pages) l.fn.catalog) (both (g.P.Pages.view l.pages) l.catalog) (told_by l.fn.change);
+  stays : KeepsKeys l.fn.catalog.listing (told_by l.fn.change) → StaysAsItWas (both (g.P.Pages.view l.fn.pages) l.fn.catalog) (both (g.P.Pages.view l.pages) l.catalog);
 }

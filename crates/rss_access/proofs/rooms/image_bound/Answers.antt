@@ -1,5 +1,5 @@
 -- There are no more pages than pairs, but for two.
-use Rattle.std.proofs.Common.{◌≤◌, ◌+◌, ◌-◌, ◌/◌, arith}
+use Rattle.std.proofs.Common.{◌-◌, ◌/◌, arith}
 use Rattle.std.proofs.Math.Nat.{div-le_self}
 use Rattle.rss_access.proofs.rooms.image_bound.Goals as goal
 

@@ -1,4 +1,4 @@
-use Rattle.std.proofs.Common.{◌≡◌, true, false, ℕ, sym, ◌∙◌, ap, subst, arith}
+use Rattle.std.proofs.Common.{◌≡◌, true, false, ℕ, refl, sym, ◌∙◌, ap, subst, arith}
 use Rattle.std.specs.Prelude.{option_copied}
 use Rattle.std.proofs.Math.Logic.{∥∥₁_elim, ∥∥₁_map}
 use Rattle.std.proofs.Math.Bridge.{le_prop}
@@ -6,7 +6,7 @@ use Rattle.std.proofs.lemmas.Result.{on_ok_weaker}
 use Rattle.rss_base.specs.TupleTypes.{kinds}
 use Rattle.rss_base.specs.Steps.{PagesCall, pages_in}
 use Rattle.rss_base.specs.declared.key.Space.TheVariants.{Image as ImageSpace}
-use Rattle.rss_base.proofs.Steps.{then_call, widens}
+use Rattle.rss_base.proofs.Steps.{rests, then_call, widens}
 use Rattle.rss_node.specs.declared.pair.Nodes.{Nodes}
 use Rattle.rss_entries.specs.Keyed.{kinds_of}
 use Rattle.rss_image.proofs.Kept.{one_made}
@@ -69,3 +69,16 @@ returns-clause-did g c =
     let put : PagesCall (pages_in c.args.image.now.segment ImageSpace) 255 1022 (g.P.Pages.view c.cut.new.pages) (g.P.Pages.view c.put.new.pages) c.put.result =
     widens (λ key there. subst (λ (n : ℕ). pages_in n ImageSpace key) segment there) (omega arith) (omega arith) c.put.ensures.did in
     widens (λ key there. there) (omega arith) (omega arith) (then_call c.in_ok-cut.ensures.did.step put)
+
+pub returns-then-are_same-clause-stays : goal.returns-then-are_same-clause-stays
+returns-then-are_same-clause-stays g c = λ was next was_is next_is same. record { image = refl; pages = rests (g.P.Pages.view c.args.pages.now) }
+
+pub returns-in_err-cut-clause-stays : goal.returns-in_err-cut-clause-stays
+returns-in_err-cut-clause-stays g c = λ was next was_is next_is same.
+    let one : c.key_of-old_key.result ≡ c.key_of-new_key.result = c.key_of-old_key.ensures.key was was_is ∙ (same ∙ sym (c.key_of-new_key.ensures.key next next_is)) in
+    let never : false ≡ true = sym c.if-are_same.false ∙ c.are_same.ensures.1 one in absurd (cc)
+
+pub returns-clause-stays : goal.returns-clause-stays
+returns-clause-stays g c = λ was next was_is next_is same.
+    let one : c.key_of-old_key.result ≡ c.key_of-new_key.result = c.key_of-old_key.ensures.key was was_is ∙ (same ∙ sym (c.key_of-new_key.ensures.key next next_is)) in
+    let never : false ≡ true = sym c.if-are_same.false ∙ c.are_same.ensures.1 one in absurd (cc)

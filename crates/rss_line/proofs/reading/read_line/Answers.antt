@@ -1,11 +1,10 @@
-use Rattle.std.proofs.Common.{◌≡◌, ◌∙◌, false, true, List, ℕ, Ok, ap, sym, subst}
+use Rattle.std.proofs.Common.{◌≡◌, ◌∙◌, List, ℕ, Ok, ap, sym, subst}
 use Rattle.std.proofs.lemmas.Bool.{false≢true}
 use Rattle.rss_base.specs.declared.call.Call.{Call}
-use Rattle.rss_model.specs.Callers.{is_built}
 use Rattle.rss_model.specs.Forms.{IsEmpty, IsWords, IsStatement, Spells}
 use Rattle.rss_line.specs.Reads.{ReadsWords}
 use Rattle.rss_line.specs.declared.reading.Line.TheVariants.{Call as CallLine}
-use Rattle.rss_line.proofs.Lines.{blank_no_call, ok_same, no_line, unbuilt_line, spelled_line, call_same}
+use Rattle.rss_line.proofs.Lines.{blank_no_call, ok_same, no_line, spelled_line, call_same}
 use Rattle.rss_line.proofs.reading.read_line.Goals as goal
 
 pub returns-then-is_empty-clause-only : goal.returns-then-is_empty-clause-only
@@ -15,19 +14,12 @@ pub returns-in_err-bind-clause-words : goal.returns-in_err-bind-clause-words
 returns-in_err-bind-clause-words c = λ was. subst (IsWords c.args.names.now.variables) c.new-reader.ensures
     (no_line c.from_residual.result (λ empty. false≢true (sym c.if-is_empty.false ∙ c.is_empty.ensures.1 empty)) c.in_err-bind.ensures c.from_residual.ensures.1 was)
 
-pub returns-then-not-is_built-clause-words : goal.returns-then-not-is_built-clause-words
-returns-then-not-is_built-clause-words c = λ was.
-    let unbuilt : is_built c.in_ok-bind.call ≡ false = sym c.is_built.ensures ∙ c.if-not-is_built.true in
-    subst (IsWords c.args.names.now.variables) c.new-reader.ensures
-    (unbuilt_line (λ empty. false≢true (sym c.if-is_empty.false ∙ c.is_empty.ensures.1 empty)) c.in_ok-bind.ensures unbuilt)
-
 pub returns-clause-call : goal.returns-clause-call
 returns-clause-call c = λ bind call is.
-    let built : is_built c.in_ok-bind.call ≡ true = sym c.is_built.ensures ∙ c.if-not-is_built.false in
     let reads = subst (λ (l : List ℕ). ReadsWords (IsStatement c.args.names.now.variables) l (Ok (c.in_ok-bind.bind, c.in_ok-bind.call))) c.new-reader.ensures c.in_ok-bind.ensures in
     let same = call_same (ok_same is) in
     subst (λ (made : Call). Spells c.args.names.now.variables c.args.line.now bind made) same.1
-    (subst (λ v. Spells c.args.names.now.variables c.args.line.now v c.in_ok-bind.call) same.0 (spelled_line c.if-line-gt-LINE_LIMIT.false reads built))
+    (subst (λ v. Spells c.args.names.now.variables c.args.line.now v c.in_ok-bind.call) same.0 (spelled_line c.if-line-gt-LINE_LIMIT.false reads))
 
 pub returns-clause-only : goal.returns-clause-only
 returns-clause-only c = λ bind call spells.

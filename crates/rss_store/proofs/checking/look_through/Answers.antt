@@ -1,7 +1,7 @@
-use Rattle.std.proofs.Common.{◌+◌, ◌*◌, arith}
+use Rattle.std.proofs.Common.{arith}
 use Rattle.rss_base.specs.Sizes.{system_pages}
 use Rattle.rss_base.proofs.Looking.{checks_as, checks_within, passed_on}
-use Rattle.rss_store.proofs.Looked.{none_listed, none_foreign, none_sound, none_imaged, heaps_seen, finds_tables, did_two, did_all}
+use Rattle.rss_store.proofs.Looked.{none_listed, none_foreign, none_sound, none_linked, none_imaged, looks_on, noted_on, links_old, heaps_seen, finds_tables, did_two, did_all}
 use Rattle.rss_store.proofs.checking.look_through.Goals as goal
 
 -- ---- the catalog
@@ -31,39 +31,60 @@ returns-in_err-look_at_segments-clause-none g c = λ place is.
     (c.in_err-look_at_segments.ensures.misses place (passed_on _ c.from_residual-in_err-look_at_segments.ensures.1 is))
 
 pub returns-in_err-look_at_segments-clause-did : goal.returns-in_err-look_at_segments-clause-did
-returns-in_err-look_at_segments-clause-did g c = (
-  1040 * (g.P.Pages.view c.args.tuples.now.pages).slots + system_pages,
-  did_two (g.met.P.Pages.holds c.args.tuples.now.pages) (g.met.P.Pages.allowed c.args.tuples.now.pages) c.in_ok-catalog.ensures.loaded c.in_ok-catalog.ensures.did
-      c.in_err-look_at_segments.ensures.did _ (passed_on _ c.from_residual-in_err-look_at_segments.ensures.1),
-)
+returns-in_err-look_at_segments-clause-did g c =
+    did_two (g.met.P.Pages.holds c.args.tuples.now.pages) (g.met.P.Pages.allowed c.args.tuples.now.pages) c.in_ok-catalog.ensures.loaded c.in_ok-catalog.ensures.did
+    c.in_err-look_at_segments.ensures.did _ (passed_on _ c.from_residual-in_err-look_at_segments.ensures.1)
+
+-- ---- links
+
+pub look_at_links-requires : goal.look_at_links-requires
+look_at_links-requires g c = record {
+  heaps = heaps_seen (g.met.P.Pages.holds c.args.tuples.now.pages) (g.met.P.Pages.allowed c.args.tuples.now.pages) c.in_ok-catalog.ensures.loaded c.in_ok-catalog.ensures.did
+      c.in_ok-look_at_segments.ensures.did (omega (arith, c.slots-slots.ensures, c.slots-slots.type_inv)) c.in_default.ensures.none c.in_ok-look_at_segments.ensures.checks;
+}
+
+pub returns-in_err-look_at_links-clause-none : goal.returns-in_err-look_at_links-clause-none
+returns-in_err-look_at_links-clause-none g c = λ place is.
+    none_linked (g.met.P.Pages.holds c.args.tuples.now.pages) (g.met.P.Pages.allowed c.args.tuples.now.pages) c.in_ok-catalog.ensures.loaded c.in_ok-catalog.ensures.did
+    c.in_ok-look_at_segments.ensures.did (omega (arith, c.slots-slots.ensures, c.slots-slots.type_inv)) (c.in_err-look_at_links.ensures.misses place (passed_on _ c.from_residual-in_err-look_at_links.ensures.1 is))
+
+pub returns-in_err-look_at_links-clause-did : goal.returns-in_err-look_at_links-clause-did
+returns-in_err-look_at_links-clause-did g c =
+    did_all (g.met.P.Pages.holds c.args.tuples.now.pages) (g.met.P.Pages.allowed c.args.tuples.now.pages) c.in_ok-catalog.ensures.loaded c.in_ok-catalog.ensures.did
+    c.in_ok-look_at_segments.ensures.did c.in_err-look_at_links.ensures.did.1 _ (passed_on _ c.from_residual-in_err-look_at_links.ensures.1)
 
 -- ---- images
 
 pub look_at_images-requires : goal.look_at_images-requires
 look_at_images-requires g c = record {
   heaps = heaps_seen (g.met.P.Pages.holds c.args.tuples.now.pages) (g.met.P.Pages.allowed c.args.tuples.now.pages) c.in_ok-catalog.ensures.loaded c.in_ok-catalog.ensures.did
-      c.in_ok-look_at_segments.ensures.did (omega (arith, c.slots-slots.ensures, c.slots-slots.type_inv)) c.in_default.ensures.none c.in_ok-look_at_segments.ensures.checks;
+      (looks_on c.in_ok-look_at_segments.ensures.did c.in_ok-look_at_links.ensures.did.1) (omega (arith, c.slots-slots.ensures, c.slots-slots.type_inv)) c.in_default.ensures.none
+      (noted_on (λ told. c.in_ok-look_at_segments.ensures.did.looks.step.passes.leaves.told.0 told) c.in_ok-look_at_links.ensures.did.1 c.in_ok-look_at_segments.ensures.checks);
 }
 
 pub returns-in_err-look_at_images-clause-none : goal.returns-in_err-look_at_images-clause-none
 returns-in_err-look_at_images-clause-none g c = λ place is.
     none_imaged (g.met.P.Pages.holds c.args.tuples.now.pages) (g.met.P.Pages.allowed c.args.tuples.now.pages) c.in_ok-catalog.ensures.loaded c.in_ok-catalog.ensures.did
-    c.in_ok-look_at_segments.ensures.did (c.in_err-look_at_images.ensures.misses place (passed_on _ c.from_residual-in_err-look_at_images.ensures.1 is))
+    (looks_on c.in_ok-look_at_segments.ensures.did c.in_ok-look_at_links.ensures.did.1) (c.in_err-look_at_images.ensures.misses place (passed_on _ c.from_residual-in_err-look_at_images.ensures.1 is))
 
 pub returns-in_err-look_at_images-clause-did : goal.returns-in_err-look_at_images-clause-did
 returns-in_err-look_at_images-clause-did g c =
     did_all (g.met.P.Pages.holds c.args.tuples.now.pages) (g.met.P.Pages.allowed c.args.tuples.now.pages) c.in_ok-catalog.ensures.loaded c.in_ok-catalog.ensures.did
-    c.in_ok-look_at_segments.ensures.did c.in_err-look_at_images.ensures.did.1 _ (passed_on _ c.from_residual-in_err-look_at_images.ensures.1)
+    (looks_on c.in_ok-look_at_segments.ensures.did c.in_ok-look_at_links.ensures.did.1) c.in_err-look_at_images.ensures.did.1 _ (passed_on _ c.from_residual-in_err-look_at_images.ensures.1)
 
 -- ---- all is found
 
 pub returns-clause-finds : goal.returns-clause-finds
 returns-clause-finds g c =
     finds_tables (g.met.P.Pages.holds c.args.tuples.now.pages) (g.met.P.Pages.allowed c.args.tuples.now.pages) c.in_ok-catalog.ensures.loaded c.in_ok-catalog.ensures.did
-    c.in_ok-look_at_segments.ensures.did (omega (arith, c.slots-slots.ensures, c.slots-slots.type_inv)) c.in_default.ensures.none c.in_ok-look_at_segments.ensures.checks
-    c.in_ok-look_at_images.ensures.did.1 c.in_ok-look_at_images.ensures.checks
+    (looks_on c.in_ok-look_at_segments.ensures.did c.in_ok-look_at_links.ensures.did.1) (omega (arith, c.slots-slots.ensures, c.slots-slots.type_inv)) c.in_default.ensures.none
+    (noted_on (λ told. c.in_ok-look_at_segments.ensures.did.looks.step.passes.leaves.told.0 told) c.in_ok-look_at_links.ensures.did.1 c.in_ok-look_at_segments.ensures.checks)
+    c.in_ok-look_at_images.ensures.did.1
+    (links_old (g.met.P.Pages.holds c.args.tuples.now.pages) (g.met.P.Pages.allowed c.args.tuples.now.pages) c.in_ok-catalog.ensures.loaded c.in_ok-catalog.ensures.did
+    c.in_ok-look_at_segments.ensures.did c.in_ok-look_at_links.ensures.checks)
+    c.in_ok-look_at_images.ensures.checks
 
 pub returns-clause-did : goal.returns-clause-did
 returns-clause-did g c =
     did_all (g.met.P.Pages.holds c.args.tuples.now.pages) (g.met.P.Pages.allowed c.args.tuples.now.pages) c.in_ok-catalog.ensures.loaded c.in_ok-catalog.ensures.did
-    c.in_ok-look_at_segments.ensures.did c.in_ok-look_at_images.ensures.did.1 _ (λ is. absurd (cc))
+    (looks_on c.in_ok-look_at_segments.ensures.did c.in_ok-look_at_links.ensures.did.1) c.in_ok-look_at_images.ensures.did.1 _ (λ is. absurd (cc))

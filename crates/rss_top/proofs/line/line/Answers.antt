@@ -28,9 +28,6 @@ make_call-requires-clause-names g c = spelled_defines_names (c.read_line.ensures
 pub make_call-requires-clause-granule : goal.make_call-requires-clause-granule
 make_call-requires-clause-granule g c = spelled_granule (c.read_line.ensures.call _ _ (c.in-Ok-Call.is ∙ ap Ok c.in-Ok-Call.field-0-is))
 
-pub make_call-requires-clause-built : goal.make_call-requires-clause-built
-make_call-requires-clause-built g c = (c.read_line.ensures.call _ _ (c.in-Ok-Call.is ∙ ap Ok c.in-Ok-Call.field-0-is)).built
-
 pub returns-in_err-make_call-in-Ok-Call : goal.returns-in_err-make_call-in-Ok-Call
 returns-in_err-make_call-in-Ok-Call g c =
     let spells = c.read_line.ensures.call _ _ (c.in-Ok-Call.is ∙ ap Ok c.in-Ok-Call.field-0-is) in

@@ -1,8 +1,8 @@
-use Rattle.std.proofs.Common.{rules, arith, ◌≡◌, ◌∙◌, List, ℕ, [], map, length, sym, subst}
+use Rattle.std.proofs.Common.{rules, arith, ◌≡◌, ◌∙◌, ℕ, [], map, length, sym, subst}
 use Rattle.std.proofs.lemmas.List.{length-map}
 use Rattle.std.specs.Prelude.{slice_index_or, codes, string_bytes}
 use Rattle.rss_words.specs.Words.{IsPlain, IsNumber, IsCount}
-use Rattle.rss_words.proofs.GoodWords.{item, run_good, good_run, generate_good, good_generate, format_good, good_format}
+use Rattle.rss_words.proofs.GoodWords.{item, run_good, good_run, generate_good, good_generate, format_good, good_format, trial_good, good_trial}
 use Rattle.rss_words.proofs.good.are_good.Goals as goal
 
 pub returns-then-eq : goal.returns-then-eq
@@ -38,11 +38,24 @@ returns-then-is_number-2 c =
     let many : length words ≡ 5 = omega (arith, c.in-len5.len_at_least, c.in-len5.len_below) in
     let texts = map string_bytes words in
     let all : length texts ≡ 5 = length-map words string_bytes ∙ many in
-    let format : c.as_str-in-len5.result.now ≡ codes "format" = search rules in
-    let name : slice_index_or texts 1 [] ≡ codes "format" = item string_bytes words 1 c.name-item-then-words-lt6.result c.as_str-in-len5.result.now (omega arith) c.name-item-then-words-lt6.is c.as_str-in-len5.ensures.value ∙ format in
-    let file : slice_index_or texts 2 [] ≡ c.as_str-then-eq-3.result.now = item string_bytes words 2 c.file-item-then-words-lt6.result c.as_str-then-eq-3.result.now (omega arith) c.file-item-then-words-lt6.is c.as_str-then-eq-3.ensures.value in
-    let slots : slice_index_or texts 3 [] ≡ c.as_str-then-is_plain.result.now = item string_bytes words 3 c.slots-item.result c.as_str-then-is_plain.result.now (omega arith) c.slots-item.is c.as_str-then-is_plain.ensures.value in
-    let log_pages : slice_index_or texts 4 [] ≡ c.as_str-then-is_number-2.result.now = item string_bytes words 4 c.log_pages-item.result c.as_str-then-is_number-2.result.now (omega arith) c.log_pages-item.is c.as_str-then-is_number-2.ensures.value in (
-      λ yes. format_good texts all name (subst IsPlain (sym file) (c.is_plain-then-eq-3.ensures.0 c.if-is_plain.true)) (subst IsNumber (sym slots) (c.is_number-then-is_plain.ensures.0 c.if-is_number-2.true)) (subst IsNumber (sym log_pages) (c.is_number-then-is_number-2.ensures.0 yes)),
-      λ good. c.is_number-then-is_number-2.ensures.1 (subst IsNumber log_pages (good_format texts all good)),
+    let name : slice_index_or texts 1 [] ≡ codes "format" = item string_bytes words 1 c.name-item-then-words-lt6.result c.as_str-in-len5.result.now (omega arith) c.name-item-then-words-lt6.is c.as_str-in-len5.ensures.value ∙ c.in-format.is in
+    let file : slice_index_or texts 2 [] ≡ c.as_str-in-format.result.now = item string_bytes words 2 c.file-item-then-words-lt6.result c.as_str-in-format.result.now (omega arith) c.file-item-then-words-lt6.is c.as_str-in-format.ensures.value in
+    let slots : slice_index_or texts 3 [] ≡ c.as_str-then-is_plain.result.now = item string_bytes words 3 c.first-item.result c.as_str-then-is_plain.result.now (omega arith) c.first-item.is c.as_str-then-is_plain.ensures.value in
+    let log_pages : slice_index_or texts 4 [] ≡ c.as_str-then-is_number-2.result.now = item string_bytes words 4 c.second-item.result c.as_str-then-is_number-2.result.now (omega arith) c.second-item.is c.as_str-then-is_number-2.ensures.value in (
+      λ yes. format_good texts all name (subst IsPlain (sym file) (c.is_plain-in-format.ensures.0 c.if-is_plain.true)) (subst IsNumber (sym slots) (c.is_number-then-is_plain.ensures.0 c.if-is_number-2.true)) (subst IsNumber (sym log_pages) (c.is_number-then-is_number-2.ensures.0 yes)),
+      λ good. c.is_number-then-is_number-2.ensures.1 (subst IsNumber log_pages (good_format texts all name good)),
+    )
+
+pub returns-then-is_number-3 : goal.returns-then-is_number-3
+returns-then-is_number-3 c =
+    let words = c.args.words.now in
+    let many : length words ≡ 5 = omega (arith, c.in-len5.len_at_least, c.in-len5.len_below) in
+    let texts = map string_bytes words in
+    let all : length texts ≡ 5 = length-map words string_bytes ∙ many in
+    let name : slice_index_or texts 1 [] ≡ codes "trial" = item string_bytes words 1 c.name-item-then-words-lt6.result c.as_str-in-len5.result.now (omega arith) c.name-item-then-words-lt6.is c.as_str-in-len5.ensures.value ∙ c.in-trial.is in
+    let file : slice_index_or texts 2 [] ≡ c.as_str-in-trial.result.now = item string_bytes words 2 c.file-item-then-words-lt6.result c.as_str-in-trial.result.now (omega arith) c.file-item-then-words-lt6.is c.as_str-in-trial.ensures.value in
+    let number : slice_index_or texts 3 [] ≡ c.as_str-then-is_plain-2.result.now = item string_bytes words 3 c.first-item.result c.as_str-then-is_plain-2.result.now (omega arith) c.first-item.is c.as_str-then-is_plain-2.ensures.value in
+    let count : slice_index_or texts 4 [] ≡ c.as_str-then-is_number-3.result.now = item string_bytes words 4 c.second-item.result c.as_str-then-is_number-3.result.now (omega arith) c.second-item.is c.as_str-then-is_number-3.ensures.value in (
+      λ yes. trial_good texts all name (subst IsPlain (sym file) (c.is_plain-in-trial.ensures.0 c.if-is_plain-2.true)) (subst IsNumber (sym number) (c.is_number-then-is_plain-2.ensures.0 c.if-is_number-3.true)) (subst IsCount (sym count) (c.is_count-then-is_number-3.ensures.0 yes)),
+      λ good. c.is_count-then-is_number-3.ensures.1 (subst IsCount count (good_trial texts all name good)),
     )

@@ -2,8 +2,8 @@ use Rattle.std.proofs.Common.{◌≡◌, ◌∙◌, ap, ap₂}
 use Rattle.std.specs.Prelude.{Some}
 use Rattle.std.proofs.lemmas.Option.{none-some, same_Some}
 use Rattle.clap.specs.Words.{found_of, rows_of}
-use Rattle.rss_words.specs.declared.command.Command.TheVariants.{Format, Generate}
-use Rattle.rss_words.proofs.Taken.{told, as_run, as_format, as_generate, as_none, not_none}
+use Rattle.rss_words.specs.declared.command.Command.TheVariants.{Format, Generate, Trial}
+use Rattle.rss_words.proofs.Taken.{told, as_run, as_format, as_generate, as_trial, as_none, not_none}
 use Rattle.rss_words.proofs.parsing.command_of.Goals as goal
 
 pub returns-in-run : goal.returns-in-run
@@ -51,10 +51,30 @@ returns-in_ok-count_in-in-gen c = λ command finds.
     let count : c.in_ok-count_in-in-gen.field-0 ≡ are.count = same_Some c.in_ok-count_in-in-gen.field-0 are.count (c.in_ok-count_in-in-gen.ensures are.count are.second are.few) in
     ap Some (ap₂ Generate number count ∙ are.is)
 
+pub returns-in_err-number_in-in-trial : goal.returns-in_err-number_in-in-trial
+returns-in_err-number_in-in-trial c = λ command finds.
+    let rows = rows_of (found_of c.in_ok-name.values.now) in
+    let are = as_trial c.in_ok-name.name.now rows command c.in-trial.is (told c.args.matches.now command c.in_ok-name.name.now rows c.in_ok-name.ensures.name c.in_ok-name.ensures.rows finds) in
+    absurd (none-some are.number (c.in_err-number_in-in-trial.ensures are.number are.first))
+
+pub returns-in_err-count_in-in-trial : goal.returns-in_err-count_in-in-trial
+returns-in_err-count_in-in-trial c = λ command finds.
+    let rows = rows_of (found_of c.in_ok-name.values.now) in
+    let are = as_trial c.in_ok-name.name.now rows command c.in-trial.is (told c.args.matches.now command c.in_ok-name.name.now rows c.in_ok-name.ensures.name c.in_ok-name.ensures.rows finds) in
+    absurd (none-some are.count (c.in_err-count_in-in-trial.ensures are.count are.second are.few))
+
+pub returns-in_ok-count_in-in-trial : goal.returns-in_ok-count_in-in-trial
+returns-in_ok-count_in-in-trial c = λ command finds.
+    let rows = rows_of (found_of c.in_ok-name.values.now) in
+    let are = as_trial c.in_ok-name.name.now rows command c.in-trial.is (told c.args.matches.now command c.in_ok-name.name.now rows c.in_ok-name.ensures.name c.in_ok-name.ensures.rows finds) in
+    let number : c.in_ok-number_in-in-trial.field-0 ≡ are.number = same_Some c.in_ok-number_in-in-trial.field-0 are.number (c.in_ok-number_in-in-trial.ensures are.number are.first) in
+    let count : c.in_ok-count_in-in-trial.field-0 ≡ are.count = same_Some c.in_ok-count_in-in-trial.field-0 are.count (c.in_ok-count_in-in-trial.ensures are.count are.second are.few) in
+    ap Some (ap₂ Trial number count ∙ are.is)
+
 pub returns-in_default : goal.returns-in_default
 returns-in_default c = λ command finds.
     let rows = rows_of (found_of c.in_ok-name.values.now) in
-    absurd (as_none c.in_ok-name.name.now rows command c.in_default.not-run c.in_default.not-format c.in_default.not-gen (told c.args.matches.now command c.in_ok-name.name.now rows c.in_ok-name.ensures.name c.in_ok-name.ensures.rows finds))
+    absurd (as_none c.in_ok-name.name.now rows command c.in_default.not-run c.in_default.not-format c.in_default.not-gen c.in_default.not-trial (told c.args.matches.now command c.in_ok-name.name.now rows c.in_ok-name.ensures.name c.in_ok-name.ensures.rows finds))
 
 pub returns-in_err-name : goal.returns-in_err-name
 returns-in_err-name c = λ command finds. absurd (not_none c.args.matches.now command finds c.in_err-name.ensures.name)

@@ -1,10 +1,9 @@
-use Rattle.std.proofs.Common.{List, ◌≤◌, arith, sym, subst, refl}
+use Rattle.std.proofs.Common.{arith, refl}
 use Rattle.std.specs.Prelude.{Ok}
-use Rattle.rss_base.specs.TupleTypes.{kinds, width, most_width}
-use Rattle.rss_base.specs.declared.field.FieldDef.{FieldDef}
+use Rattle.rss_base.specs.TupleTypes.{kinds}
 use Rattle.rss_model.proofs.Lengths.{row_line}
 use Rattle.rss_rsi.specs.Parts.{parts_of}
-use Rattle.rss_rsi.proofs.Looks.{ready_looked, body_as, costly_damaged, costly_fails, lacks_costly, passed_on}
+use Rattle.rss_rsi.proofs.Looks.{ready_looked, body_as, costly_damaged, costly_fails, lacks_costly, passed_on, still_at}
 use Rattle.rss_rsi.proofs.Scans.{none_unread, none_behind, row_behind}
 use Rattle.rss_rsi.proofs.engine.Rss.find_behind.Goals as goal
 
@@ -24,7 +23,7 @@ returns-in_err-tuple-clause-fails g c =
     passed_on c.from_residual-in_err-tuple.result c.from_residual-in_err-tuple.ensures.1
     (costly_damaged _ _ {found = c.in_ok-found.found} look.looks _ _ refl c.requires.up (λ up. absurd (cc (up))) _ damaged.0 (λ told state is_in.
     none_unread (parts_of c.args.self.now) c.args.number c.relation.ensures.is c.args.after c.in_ok-found.found _ look.finds c.in-Some.tid c.in-Some.is c.in-Ok.read
-    (λ values body. c.in-Ok.ensures.exact values (body_as look.looks.catalog c.relation.ensures.is c.relation-entry.ensures.is c.as_slice.ensures c.as_slice-2.ensures.bytes values body))
+    (body_as look.looks.catalog c.relation.ensures.is c.as_slice.ensures.bytes c.in-Ok.ensures.exact)
     told state is_in damaged.1))
 
 pub returns-in_default-clause-finds : goal.returns-in_default-clause-finds
@@ -33,11 +32,11 @@ returns-in_default-clause-finds g c = none_behind (parts_of c.args.self.now) c.a
 pub returns-clause-finds : goal.returns-clause-finds
 returns-clause-finds g c =
     let look = c.in_ok-found.ensures in
-    let spelled = rw c.in_ok-tuple.ensures.some at c.in-Ok.ensures.some in
+    let spelled = rw c.in_ok-tuple.ensures.some at c.in-Ok.ensures.some c.relation.result.now (still_at c.args.number look.looks.catalog c.relation.ensures.is) in
     row_behind (parts_of c.args.self.now) c.args.number c.relation.ensures.is c.args.after c.in_ok-found.found _ look.finds c.in-Some.tid c.in-Some.is c.in-Ok.read
-    (λ values body. c.in-Ok.ensures.exact values (body_as look.looks.catalog c.relation.ensures.is c.relation-entry.ensures.is c.as_slice.ensures c.as_slice-2.ensures.bytes values body))
+    (body_as look.looks.catalog c.relation.ensures.is c.as_slice.ensures.bytes c.in-Ok.ensures.exact)
     c.in_ok-tuple.tuple c.in_ok-tuple.ensures.some
-    (row_line c.in-Some.tid (kinds c.as_slice.result.now) c.in_ok-tuple.tuple (omega arith) (omega arith) spelled.spelled.fit (subst (λ (f : List FieldDef). width (kinds f) ≤ most_width) (sym c.as_slice.ensures) c.relation-entry.ensures.safe.narrow) spelled.spelled.storable)
+    (row_line c.in-Some.tid (kinds c.relation.result.now.fields) c.in_ok-tuple.tuple (omega arith) (omega arith) spelled.spelled.fit c.relation.ensures.safe.narrow spelled.spelled.storable)
 
 pub invariant_of-self-2 : goal.invariant_of-self-2
 invariant_of-self-2 g c = record { ready = λ up. ready_looked (parts_of c.args.self.now) _ {found = c.in_ok-found.found} (c.args.self.now.ready c.requires.up) c.in_ok-found.ensures.looks (record { locks = refl; scans = refl }) }

@@ -1,8 +1,7 @@
-use Rattle.std.proofs.Common.{◌≤◌, ◌∙◌, List, arith, refl, sym, ap, subst}
+use Rattle.std.proofs.Common.{◌∙◌, arith, refl, sym, ap, subst}
 use Rattle.std.specs.Prelude.{Some, Ok, is_some, option_copied}
 use Rattle.rss_base.specs.Listings.{image_at, relation_at}
-use Rattle.rss_base.specs.TupleTypes.{kinds, width, most_width}
-use Rattle.rss_base.specs.declared.field.FieldDef.{FieldDef}
+use Rattle.rss_base.specs.TupleTypes.{kinds}
 use Rattle.rss_catalog.specs.Catalogs.{CatalogView}
 use Rattle.rss_model.proofs.Lengths.{row_line}
 use Rattle.rss_scan.specs.Scans.{told as scans_told}
@@ -12,7 +11,7 @@ use Rattle.rss_session.proofs.Starts.{image_entry}
 use Rattle.rss_rsi.specs.Parts.{parts_of, session_of}
 use Rattle.rss_rsi.specs.Views.{AreLong}
 use Rattle.rss_rsi.proofs.ImageScans.{costs_levels, goes_at, long_last, named_as, never_lost, never_unread, none_found, row_found}
-use Rattle.rss_rsi.proofs.Looks.{body_as, costly_damaged, costly_fails, lacks_costly, passed_on, ready_looked}
+use Rattle.rss_rsi.proofs.Looks.{body_as, costly_damaged, costly_fails, lacks_costly, passed_on, ready_looked, still_at}
 use Rattle.rss_rsi.proofs.Scans.{cursor_long, has_scan}
 use Rattle.rss_rsi.proofs.Ways.{rss_parts}
 use Rattle.rss_rsi.proofs.engine.Rss.find_entry.Goals as goal
@@ -134,7 +133,7 @@ returns-in_err-tuple-clause-fails g c =
     let of = has_scan is_in c.args.transaction c.args.scan c.in-Some.cursor.now has in
     never_unread has c.in-Image.field-0 c.in-Image.start c.in-Image.is c.args.number (record { at = listed; within = within }) (named_as c.args.self.now.session.store.catalog.listing c.args.number listed here.at here.named) (c.args.self.now.ready c.requires.up).session
     (rw c.in-Some-found.is at c.in_ok-found.ensures.next) looks look.finds c.if-not-branch.false c.in-Ok.read
-    (λ values body. c.in-Ok.ensures.exact values (body_as look.looks.catalog c.relation.ensures.is c.relation-entry.ensures.is c.as_slice-fields.ensures c.as_slice.ensures.bytes values body))
+    (body_as look.looks.catalog c.relation.ensures.is c.as_slice.ensures.bytes c.in-Ok.ensures.exact)
     damaged.1 state of.scan (record { told = told; is_in = is_in; there = of.there })))
 
 pub returns-in_err-tuple-clause-idle : goal.returns-in_err-tuple-clause-idle
@@ -162,15 +161,15 @@ returns-clause-finds g c =
     let long = subst (λ (path : Path). AreLong c.args.self.now.session.store.catalog.listing path c.in-Some.cursor.now.last) c.in-Image.is all in
     let looks = c.in_ok-found.ensures.looks in
     let look = c.in_ok-look.ensures in
-    let spelled = rw c.in_ok-tuple.ensures.some at c.in-Ok.ensures.some in
+    let spelled = rw c.in_ok-tuple.ensures.some at c.in-Ok.ensures.some c.relation.result.now (still_at c.image.result.now.relation look.looks.catalog c.relation.ensures.is) in
     let listed = ap (λ (catalog : CatalogView). image_at catalog.listing c.args.number) (sym looks.catalog) ∙ c.image.ensures.is in
     let within = ap (λ (catalog : CatalogView). relation_at catalog.listing c.image.result.now.relation) (sym looks.catalog) ∙ c.relation.ensures.is in
     row_found has c.in-Image.field-0 c.in-Image.start c.in-Image.is c.args.number (record { at = listed; within = within }) (named_as c.args.self.now.session.store.catalog.listing c.args.number listed here.at here.named) (c.args.self.now.ready c.requires.up).session
     (rw c.in-Some-found.is at c.in_ok-found.ensures.next) looks look.finds c.if-not-branch.false c.in-Ok.read
-    (λ values body. c.in-Ok.ensures.exact values (body_as look.looks.catalog c.relation.ensures.is c.relation-entry.ensures.is c.as_slice-fields.ensures c.as_slice.ensures.bytes values body))
+    (body_as look.looks.catalog c.relation.ensures.is c.as_slice.ensures.bytes c.in-Ok.ensures.exact)
     long.0 at.0 at.1 (rw c.in-Some-found.is at c.in_ok-found.ensures.wide)
     c.in_ok-tuple.tuple c.in_ok-tuple.ensures.some
-    (row_line c.in-Some-found.tid (kinds c.as_slice-fields.result.now) c.in_ok-tuple.tuple (omega (arith, c.is_sized.ensures.page)) (omega (arith, c.is_sized.ensures.slot)) spelled.spelled.fit (subst (λ (f : List FieldDef). width (kinds f) ≤ most_width) (sym c.as_slice-fields.ensures) c.relation-entry.ensures.safe.narrow) spelled.spelled.storable)
+    (row_line c.in-Some-found.tid (kinds c.relation.result.now.fields) c.in_ok-tuple.tuple (omega (arith, c.is_sized.ensures.page)) (omega (arith, c.is_sized.ensures.slot)) spelled.spelled.fit c.relation.ensures.safe.narrow spelled.spelled.storable)
 
 pub returns-clause-costs : goal.returns-clause-costs
 returns-clause-costs g c =

@@ -26,6 +26,7 @@ use Rattle.rss_session.proofs.Behind.{looks_then}
 use Rattle.rss_trans.specs.Transactions.{OpenView, is_open}
 use Rattle.rss_rsi.specs.Locking.{putting, MayBeOf}
 use Rattle.rss_rsi.specs.Parts.{parts_of, session_of}
+use Rattle.rss_rsi.specs.Views.{body_length}
 use Rattle.rss_rsi.proofs.Changes.{still_made, ends_short, ends_made}
 use Rattle.rss_rsi.proofs.Claims.{claimed_from, claimed_free, free_front}
 use Rattle.rss_rsi.proofs.Inserts.{is_admitted, insert_unfit, insert_used_up, may_insert, insert_places, insert_no_needs, insert_lost, insert_owned, gets_place, insert_ends}
@@ -260,5 +261,5 @@ returns-clause-did g c =
     ∙ ap (granted c.args.transaction c.in-Ok.needs.items) claimed.same)
     (ap scans_told (held.scans ∙ c.change.ensures.scans ∙ owned.scans ∙ claim.scans ∙ placed.scans))
     counted.was_up (omega (arith, counted.counted, placed.calls, claim.calls, owned.calls, c.change.ensures.calls, held.calls))
-    (gets_place (parts_of c.ask.new.self) admitted placed.looks placed.place lists claimed (omega (arith, ap length c.as_slice.ensures.bytes, ap length spelled.same)))
+    (gets_place (parts_of c.ask.new.self) admitted placed.looks placed.place lists claimed (λ fits. c.body_len-length.ensures.is fits ∙ ap (body_length c.ask.new.self.session.store.catalog.listing c.in_ok-number.number) (ap length (c.as_slice.ensures.bytes ∙ spelled.same))))
     (still_made g.S.Pages.view held.session held.down c.in_ok-change.ensures.did))

@@ -1,11 +1,10 @@
-use Rattle.std.proofs.Common.{List, ◌≤◌, arith, sym, subst, refl}
+use Rattle.std.proofs.Common.{arith, refl}
 use Rattle.std.specs.Prelude.{Ok, Some, None}
-use Rattle.rss_base.specs.TupleTypes.{kinds, width, most_width}
-use Rattle.rss_base.specs.declared.field.FieldDef.{FieldDef}
+use Rattle.rss_base.specs.TupleTypes.{kinds}
 use Rattle.rss_model.proofs.Lengths.{tuple_line}
 use Rattle.rss_session.proofs.Behind.{looks_as}
 use Rattle.rss_rsi.specs.Parts.{parts_of}
-use Rattle.rss_rsi.proofs.Looks.{look_fails, lacks_looked, reads_none, none_past, none_there, some_there, none_spelled, looks_nothing, ready_looked, body_as, body_fits}
+use Rattle.rss_rsi.proofs.Looks.{look_fails, lacks_looked, reads_none, none_past, none_there, some_there, none_spelled, looks_nothing, ready_looked, body_as, body_fits, still_at}
 use Rattle.rss_rsi.proofs.engine.Rss.look_up.Goals as goal
 
 pub returns-then-from-ge-PAGE_ENTRIES-clause-looks : goal.returns-then-from-ge-PAGE_ENTRIES-clause-looks
@@ -40,7 +39,7 @@ returns-in_err-tuple-clause-fails g c =
     let damaged = c.in_err-tuple.ensures.damaged in
     reads_none _ _ {found = Ok c.in_ok-there.there} look.looks (record { asks_high = look.costs.0; writes_high = look.costs.1 }) _ c.from_residual-in_err-tuple.result _ c.from_residual-in_err-tuple.ensures.1 damaged.0 c.requires.up (λ up. absurd (cc (up))) (λ told state is_in.
     none_spelled _ c.relation.ensures.is look.finds c.in-Ok.read
-    (λ values body. c.in-Ok.ensures.exact values (body_as look.looks.catalog c.relation.ensures.is c.relation-entry.ensures.is c.as_slice.ensures c.as_slice-2.ensures.bytes values body))
+    (body_as look.looks.catalog c.relation.ensures.is c.as_slice.ensures.bytes c.in-Ok.ensures.exact)
     c.if-not-there.false told state is_in damaged.1)
 
 pub returns-clause-looks : goal.returns-clause-looks
@@ -51,14 +50,14 @@ returns-clause-looks g c =
 pub returns-clause-finds : goal.returns-clause-finds
 returns-clause-finds g c = λ relation known.
     let look = c.in_ok-there.ensures in
-    let spelled = rw c.in_ok-tuple.ensures.some at c.in-Ok.ensures.some in
+    let spelled = rw c.in_ok-tuple.ensures.some at c.in-Ok.ensures.some c.relation.result.now (still_at c.args.number look.looks.catalog c.relation.ensures.is) in
     record {
       has = λ told state is_in. some_there _ relation c.args.number known c.relation.ensures.is look.finds c.in-Ok.read
-          (λ values body. c.in-Ok.ensures.exact values (body_as look.looks.catalog c.relation.ensures.is c.relation-entry.ensures.is c.as_slice.ensures c.as_slice-2.ensures.bytes values body))
+          (body_as look.looks.catalog c.relation.ensures.is c.as_slice.ensures.bytes c.in-Ok.ensures.exact)
           c.if-not-there.false told state is_in c.in_ok-tuple.tuple c.in_ok-tuple.ensures.some;
-      fit = body_fits look.looks.catalog c.relation-entry.ensures.is c.as_slice.ensures spelled;
+      fit = body_fits c.args.self.now.session.store.catalog.listing c.relation.ensures.is spelled;
       storable = spelled.spelled.storable;
-      short = tuple_line (kinds c.as_slice.result.now) c.in_ok-tuple.tuple spelled.spelled.fit (subst (λ (f : List FieldDef). width (kinds f) ≤ most_width) (sym c.as_slice.ensures) c.relation-entry.ensures.safe.narrow) spelled.spelled.storable;
+      short = tuple_line (kinds c.relation.result.now.fields) c.in_ok-tuple.tuple spelled.spelled.fit c.relation.ensures.safe.narrow spelled.spelled.storable;
       slot = omega (arith, c.if-from-ge-PAGE_ENTRIES.false, c.from.ensures);
     }
 

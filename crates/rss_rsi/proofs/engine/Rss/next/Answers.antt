@@ -12,8 +12,8 @@ use Rattle.rss_session.specs.Parts.{view as session_view}
 use Rattle.rss_rsi.specs.Views.{AreLong, AllMayGoOn}
 use Rattle.rss_rsi.proofs.ImageScans.{costs_asked, gave_next, idle_asked, idle_same}
 use Rattle.rss_rsi.proofs.Looks.{ends_so}
-use Rattle.rss_rsi.proofs.ScanCalls.{next_gives, next_lacks, next_may, next_stops}
-use Rattle.rss_rsi.proofs.Scans.{cursor_long, has_cursor, given_may, lent_none, lent_some, ready_scans}
+use Rattle.rss_rsi.proofs.ScanCalls.{next_gives, next_lacks, next_stops}
+use Rattle.rss_rsi.proofs.Scans.{has_cursor, given_may, lent_none, lent_some, ready_scans}
 use Rattle.rss_rsi.proofs.Ways.{ScanTable, asked, refused_test, rss_parts}
 use Rattle.rss_rsi.proofs.engine.Rss.next.Goals as goal
 
@@ -34,7 +34,7 @@ pub returns-in_err-key-clause-did : goal.returns-in_err-key-clause-did
 returns-in_err-key-clause-did g c =
     let counted = c.in_ok-ask.ensures in
     ends_so g.S.Pages.view c.from_residual-in_err-key.result c.from_residual-in_err-key.ensures.1 counted.session counted.locks counted.scans (counted.up ∙ sym counted.was_up)
-    (c.in_err-key.ensures.fails c.args.self.now.calls (Next c.args.transaction c.args.scan) (omega (arith, counted.counted)) (next_may c.args.transaction c.args.scan))
+    (c.in_err-key.ensures.fails c.args.self.now.calls (Next c.args.transaction c.args.scan) (omega (arith, counted.counted)) (record { is = refl; opened = c.in_ok-test_open.ensures.tests }))
 
 pub returns-in_err-key-clause-costs : goal.returns-in_err-key-clause-costs
 returns-in_err-key-clause-costs g c =
@@ -60,9 +60,8 @@ returns-in-Some-clause-did g c =
     let counted = c.in_ok-ask.ensures in
     let found = c.in_ok-key.ensures in
     let some = lent_some _ c.get.ensures c.if-is_none.ensures in
-    let long = cursor_long c.ask.new.self.session.store.catalog.listing (session_view g.S.Pages.view c.ask.new.self.session).opened (scans_told c.ask.new.self.scans) c.args.transaction c.args.scan counted.ready.scans some.1 in
     asked g.S.Pages.view counted.session counted.locks counted.scans
-    (next_gives c.args.transaction c.args.scan c.in_ok-test_open.ensures.tests counted.was_up found.up (omega (arith, counted.counted, found.calls)) some.1 long found.looks (ap (λ (l : LockTable). (told l).locks) found.locks)
+    (next_gives c.args.transaction c.args.scan c.in_ok-test_open.ensures.tests counted.was_up found.up (omega (arith, counted.counted, found.calls)) some.1 found.looks (ap (λ (l : LockTable). (told l).locks) found.locks)
     c.in-Some.key c.in-Some.tid c.in-Some.tuple (rw c.in-Some.is at found.finds) (gave_next c.args.scan c.in-Some.key c.in-Some.tid (ap scans_told found.scans) c.gave.ensures))
 
 pub returns-in-Some-clause-costs : goal.returns-in-Some-clause-costs
@@ -75,9 +74,8 @@ returns-in-None-clause-did g c =
     let counted = c.in_ok-ask.ensures in
     let found = c.in_ok-key.ensures in
     let some = lent_some _ c.get.ensures c.if-is_none.ensures in
-    let long = cursor_long c.ask.new.self.session.store.catalog.listing (session_view g.S.Pages.view c.ask.new.self.session).opened (scans_told c.ask.new.self.scans) c.args.transaction c.args.scan counted.ready.scans some.1 in
     asked g.S.Pages.view counted.session counted.locks counted.scans
-    (next_stops c.args.transaction c.args.scan c.in_ok-test_open.ensures.tests counted.was_up found.up (omega (arith, counted.counted, found.calls)) some.1 long found.looks (ap (λ (l : LockTable). (told l).locks) found.locks)
+    (next_stops c.args.transaction c.args.scan c.in_ok-test_open.ensures.tests counted.was_up found.up (omega (arith, counted.counted, found.calls)) some.1 found.looks (ap (λ (l : LockTable). (told l).locks) found.locks)
     (rw c.in-None.is at found.finds) (ap scans_told found.scans))
 
 pub returns-in-None-clause-costs : goal.returns-in-None-clause-costs

@@ -108,3 +108,39 @@ returns-in-DropRelation-clause-done g c = rw c.in-DropRelation.is c.drop_relatio
 
 pub returns-in-DropRelation-clause-untouched : goal.returns-in-DropRelation-clause-untouched
 returns-in-DropRelation-clause-untouched g c = λ is. c.drop_relation.ensures.untouched (λ up. never_down c.drop_relation.ensures.did up is)
+
+pub returns-in-Connect-clause-done : goal.returns-in-Connect-clause-done
+returns-in-Connect-clause-done g c = rw c.in-Connect.is c.connect.ensures.did
+
+pub returns-in-Connect-clause-untouched : goal.returns-in-Connect-clause-untouched
+returns-in-Connect-clause-untouched g c = λ is. c.connect.ensures.untouched (λ up. never_down c.connect.ensures.did up is)
+
+pub returns-in-Disconnect-clause-done : goal.returns-in-Disconnect-clause-done
+returns-in-Disconnect-clause-done g c = rw c.in-Disconnect.is c.disconnect.ensures.did
+
+pub returns-in-Disconnect-clause-untouched : goal.returns-in-Disconnect-clause-untouched
+returns-in-Disconnect-clause-untouched g c = λ is. c.disconnect.ensures.untouched (λ up. never_down c.disconnect.ensures.did up is)
+
+pub returns-in-Parent-clause-done : goal.returns-in-Parent-clause-done
+returns-in-Parent-clause-done g c = rw c.in-Parent.is c.parent.ensures.did
+
+pub returns-in-Parent-clause-untouched : goal.returns-in-Parent-clause-untouched
+returns-in-Parent-clause-untouched g c = λ is. c.parent.ensures.untouched (λ up. never_down c.parent.ensures.did up is)
+
+pub returns-in-OpenLink-clause-done : goal.returns-in-OpenLink-clause-done
+returns-in-OpenLink-clause-done g c = rw c.in-OpenLink.is c.open_link.ensures.did
+
+pub returns-in-OpenLink-clause-untouched : goal.returns-in-OpenLink-clause-untouched
+returns-in-OpenLink-clause-untouched g c = λ is. c.open_link.ensures.untouched (λ up. never_down c.open_link.ensures.did up is)
+
+pub returns-in-MakeLink-clause-done : goal.returns-in-MakeLink-clause-done
+returns-in-MakeLink-clause-done g c = rw c.in-MakeLink.is c.make_link.ensures.did
+
+pub returns-in-MakeLink-clause-untouched : goal.returns-in-MakeLink-clause-untouched
+returns-in-MakeLink-clause-untouched g c = λ is. c.make_link.ensures.untouched (λ up. never_down c.make_link.ensures.did up is)
+
+pub returns-in-DropLink-clause-done : goal.returns-in-DropLink-clause-done
+returns-in-DropLink-clause-done g c = rw c.in-DropLink.is c.drop_link.ensures.did
+
+pub returns-in-DropLink-clause-untouched : goal.returns-in-DropLink-clause-untouched
+returns-in-DropLink-clause-untouched g c = λ is. c.drop_link.ensures.untouched (λ up. never_down c.drop_link.ensures.did up is)

@@ -1,19 +1,15 @@
-use Rattle.std.proofs.Common.{ℕ, refl, sym, subst, arith}
-use Rattle.std.specs.Prelude.{Option}
+use Rattle.std.proofs.Common.{refl, sym, arith}
 use Rattle.rss_model.proofs.Sparing.{takes_two}
 use Rattle.rss_record.proofs.Parsing.{some_bytes}
 use Rattle.rss_record.proofs.Records.{record_most}
-use Rattle.rss_base.specs.LogRecords.{record_size}
 use Rattle.rss_base.specs.declared.log_record.LogRecord.TheVariants as records
-use Rattle.rss_access.specs.Changes.{number_told}
 use Rattle.rss_store.specs.Parts.{view as store_view}
-use Rattle.rss_session.specs.Parts.{view}
 use Rattle.rss_store.proofs.Altered.{fault_passed}
 use Rattle.rss_session.proofs.SavePoints.{keeps_saves}
 use Rattle.rss_session.proofs.StaysOpen.{put_stay}
 use Rattle.rss_session.proofs.Taken.{room_next, mapped_two}
-use Rattle.rss_session.proofs.Noted.{Goes, weighed_goes}
-use Rattle.rss_session.proofs.Changed.{one_told, ready_noted, makes_noted}
+use Rattle.rss_session.proofs.Noted.{weighed_goes}
+use Rattle.rss_session.proofs.Changed.{ready_noted, makes_noted}
 use Rattle.rss_session.proofs.Passing.{keeps_altered, goes_altered, fault_same}
 use Rattle.rss_session.proofs.session.Session.change.Goals as goal
 
@@ -32,7 +28,7 @@ returns-clause-goes g c = goes_altered _ c.requires.ready.store (λ is. absurd (
 
 pub returns-in_err-position-clause-sound : goal.returns-in_err-position-clause-sound
 returns-in_err-position-clause-sound g c = λ place is told state change by kept shows may. c.in_err-position.ensures.sound place (fault_passed c.from_residual.ensures.1 is) told
-    (room_next (number_told c.args.change) c.requires.ready (subst (λ (number : Option ℕ). Goes (view g.S.Pages.view c.args.self.now) c.args.transaction number (record_size (records.Change c.args.transaction c.args.change))) (one_told c.args.change c.requires.tuple) (weighed_goes _ _ _ _ c.requires.weighed)) shows) state change by shows.store may
+    (room_next c.args.change c.requires.ready (weighed_goes _ _ _ _ c.requires.weighed) shows) state change by shows.store may
 
 pub returns-clause-ready : goal.returns-clause-ready
 returns-clause-ready g c =
@@ -43,7 +39,7 @@ returns-clause-ready g c =
 pub returns-clause-makes : goal.returns-clause-makes
 returns-clause-makes g c = λ told state change by kept shows may.
     let store = c.in_ok-position.ensures in
-    makes_noted c.requires.tuple c.requires.ready c.requires.«open» c.requires.weighed c.note.ensures store.at c.relation_of-relation.ensures c.is_delete-is_delete.ensures store.did.definitions (record { heap = refl; surviving = refl; entries = refl; survived = refl }) state change by shows may
+    makes_noted c.requires.ready c.requires.«open» c.requires.weighed c.note.ensures store.at c.relation_of-relation.ensures c.is_delete-is_delete.ensures store.did.definitions (record { heap = refl; surviving = refl; entries = refl; survived = refl }) state change by shows may
     (store.makes told state change by shows.store may)
 
 pub returns-clause-stay : goal.returns-clause-stay

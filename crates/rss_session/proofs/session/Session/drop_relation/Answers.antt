@@ -4,7 +4,7 @@ use Rattle.std.proofs.lemmas.Bool.{true≢false}
 use Rattle.rss_base.specs.Listings.{with_relation}
 use Rattle.rss_base.specs.declared.name.Name.{Name}
 use Rattle.rss_base.specs.declared.call.Call.TheVariants.{DropRelation}
-use Rattle.rss_catalog.specs.Catalogs.{HasImageOf}
+use Rattle.rss_catalog.specs.Catalogs.{HasImageOf, HasLinkOf}
 use Rattle.rss_model.specs.Defining.{if_any_open}
 use Rattle.rss_model.proofs.Relisted.{number_within_list}
 use Rattle.rss_model.proofs.Tests.{refuses_at}
@@ -56,9 +56,10 @@ returns g c =
     let named = name_of listing c.args.name.now number entry c.in-Some.ensures.some c.relation.ensures.is in
     let within = number_within_list listing.relations number entry c.relation.ensures.is in
     let none : HasImageOf listing number → ⊥ = λ has. true≢false (sym (c.has_image_of.ensures.1 has) ∙ c.if-has_image_of.false) in
+    let unlinked : HasLinkOf listing number → ⊥ = λ has. true≢false (sym (c.has_link_of.ensures.1 has) ∙ c.if-has_link_of.false) in
     let empty : entry.live ≡ 0 = omega (arith, c.if-relation-gt0.false) in record {
-      tests = λ told state shows. relation_drops shows c.in_ok-test_rest.ensures.closed c.args.name.now number c.in-Some.ensures.some entry c.relation.ensures.is named empty none;
-      redefines = redefines _ (λ fits. relation_page number (omega (arith, within.1, fits.relation_places))) (subst (λ (n : Name). Relists listing (DropRelation n) (with_relation listing number None)) named (drop_relation number entry c.relation.ensures.is empty none)) c.remove.ensures.lists (page_same listing number None) (c.remove.ensures.fits (λ e. absurd (cc))) (imaged_still listing number None within.0 none) c.in_ok-test_rest.ensures.closed
+      tests = λ told state shows. relation_drops shows c.in_ok-test_rest.ensures.closed c.args.name.now number c.in-Some.ensures.some entry c.relation.ensures.is named empty none unlinked;
+      redefines = redefines _ (λ fits. relation_page number (omega (arith, within.1, fits.relation_places))) (subst (λ (n : Name). Relists listing (DropRelation n) (with_relation listing number None)) named (drop_relation number entry c.relation.ensures.is empty none)) c.remove.ensures.lists (λ k low. page_same listing number None k) (c.remove.ensures.fits (λ e. absurd (cc))) (imaged_still listing number None within.0 none) c.in_ok-test_rest.ensures.closed
           (record { tuples = refl; log = refl; root = refl; number = refl; opened = refl; heap = refl; surviving = refl; entries = refl; survived = refl });
       same = tt;
     }

@@ -29,7 +29,7 @@ pub returns : goal.returns
 returns g c =
     let empty : HasRelationIn c.args.self.now.store.catalog.listing c.in-Some.number → ⊥ = λ has. true≢false (sym (c.has_relation_in.ensures.1 has) ∙ c.if-has_relation_in.false) in record {
       tests = λ told state shows. segment_drops shows c.in_ok-test_rest.ensures.closed c.args.name.now c.in-Some.number c.in-Some.ensures.some empty;
-      redefines = redefines 0 (λ fits. omega arith) (drop_segment c.args.name.now c.in-Some.number c.in-Some.ensures.some empty) c.remove.ensures.lists (segment_pages c.args.self.now.store.catalog.listing c.in-Some.number None) (c.remove.ensures.fits (λ is has. empty has)) (λ k image at. refl) c.in_ok-test_rest.ensures.closed
+      redefines = redefines 0 (λ fits. omega arith) (drop_segment c.args.name.now c.in-Some.number c.in-Some.ensures.some empty) c.remove.ensures.lists (λ k low. segment_pages c.args.self.now.store.catalog.listing c.in-Some.number None k) (c.remove.ensures.fits (λ is has. empty has)) (λ k image at. refl) c.in_ok-test_rest.ensures.closed
           (record { tuples = refl; log = refl; root = refl; number = refl; opened = refl; heap = refl; surviving = refl; entries = refl; survived = refl });
       same = tt;
     }

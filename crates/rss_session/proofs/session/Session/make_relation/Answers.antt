@@ -87,7 +87,7 @@ returns g c =
     let least = c.add_relation.ensures.least in
     let places = length-map listing.relations (option_map (λ (r : RelationEntry). r.name)) in record {
       tests = λ told state shows. relation_may shows c.in_ok-test_rest.ensures.closed c.args.name.now c.args.segment.now c.args.fields c.in-Some.segment c.in-Some.ensures.some fresh once (λ all. true≢false (sym (c.is_full.ensures.1 all) ∙ c.if-is_full.false)) formed narrow;
-      redefines = redefines _ (λ fits. relation_page c.add_relation.result (omega (arith, least.high, places, fits.relation_places))) (relation c.args.name.now c.args.segment.now c.args.fields c.in-Some.segment c.add_relation.result c.in-Some.ensures.some fresh least) c.add_relation.ensures.lists (page_same listing c.add_relation.result _) c.add_relation.ensures.fits (imaged_still listing c.add_relation.result _ least.low c.add_relation.ensures.none) c.in_ok-test_rest.ensures.closed
+      redefines = redefines _ (λ fits. relation_page c.add_relation.result (omega (arith, least.high, places, fits.relation_places))) (relation c.args.name.now c.args.segment.now c.args.fields c.in-Some.segment c.add_relation.result c.in-Some.ensures.some fresh least) c.add_relation.ensures.lists (λ k low. page_same listing c.add_relation.result _ k) c.add_relation.ensures.fits (imaged_still listing c.add_relation.result _ least.low c.add_relation.ensures.none) c.in_ok-test_rest.ensures.closed
           (record { tuples = refl; log = refl; root = refl; number = refl; opened = refl; heap = refl; surviving = refl; entries = refl; survived = refl });
       same = tt;
     }

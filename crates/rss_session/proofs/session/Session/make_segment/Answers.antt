@@ -30,7 +30,7 @@ pub returns : goal.returns
 returns g c =
     let fresh = not_found c.find.result c.find.ensures.none (sym c.is_some.ensures ∙ c.if-is_some.false) in record {
       tests = λ told state shows. segment_may shows c.in_ok-test_rest.ensures.closed c.args.name.now fresh (λ all. true≢false (sym (c.is_full.ensures.1 all) ∙ c.if-is_full.false));
-      redefines = redefines 0 (λ fits. omega arith) (segment c.args.name.now c.add_segment.result fresh c.add_segment.ensures.least) c.add_segment.ensures.lists (segment_pages c.args.self.now.store.catalog.listing c.add_segment.result (Some c.args.name.now)) c.add_segment.ensures.fits (λ k image at. refl) c.in_ok-test_rest.ensures.closed
+      redefines = redefines 0 (λ fits. omega arith) (segment c.args.name.now c.add_segment.result fresh c.add_segment.ensures.least) c.add_segment.ensures.lists (λ k low. segment_pages c.args.self.now.store.catalog.listing c.add_segment.result (Some c.args.name.now) k) c.add_segment.ensures.fits (λ k image at. refl) c.in_ok-test_rest.ensures.closed
           (record { tuples = refl; log = refl; root = refl; number = refl; opened = refl; heap = refl; surviving = refl; entries = refl; survived = refl });
       same = tt;
     }

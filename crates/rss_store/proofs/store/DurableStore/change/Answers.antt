@@ -9,8 +9,8 @@ use Rattle.rss_store.proofs.Making.{makes_one, may_not_make}
 use Rattle.rss_store.proofs.Spelled.{can_alter}
 use Rattle.rss_store.proofs.store.DurableStore.change.Goals as goal
 
-pub apply-requires-clause-may : goal.apply-requires-clause-may
-apply-requires-clause-may g c = can_alter c.requires.ready
+pub apply-requires : goal.apply-requires
+apply-requires g c = record { may = can_alter c.requires.ready }
 
 pub returns-in_err-apply-clause-sound : goal.returns-in_err-apply-clause-sound
 returns-in_err-apply-clause-sound g c = λ place is told room state change by shown may.
@@ -31,7 +31,7 @@ returns-clause-makes g c =
     let new : StoreView = record { pages = g.S.Pages.view c.apply.new.tuples.pages; catalog = c.apply.new.catalog; log = c.append.new.self; root = c.args.self.now.root; number = c.args.self.now.number } in
     let appends : Appends (records.Change c.args.transaction c.args.change) c.append.result c.args.self.now.log c.append.new.self = record { position = c.append.ensures.position; grown = c.append.ensures.appended; records = c.append.ensures.records } in
     λ told state change by shown may.
-    makes_one c.args.change old new change_ties c.in_ok-apply.ensures.makes c.in_ok-apply.ensures.applies refl refl c.requires.tuple (g.met.S.Pages.are_counted c.apply.new.tuples.pages) c.requires.ready told c.append.result c.args.transaction appends state change by shown may
+    makes_one c.args.change old new change_ties c.in_ok-apply.ensures.makes c.in_ok-apply.ensures.applies refl refl (g.met.S.Pages.are_counted c.apply.new.tuples.pages) c.requires.ready told c.append.result c.args.transaction appends state change by shown may
 
 pub returns-clause-did : goal.returns-clause-did
 returns-clause-did g c = alters_done c.append.result c.in_ok-apply.ensures.makes refl refl

@@ -1,7 +1,7 @@
 use Rattle.std.proofs.Common.{refl, subst}
 use Rattle.rss_base.specs.declared.change.Change as told
 use Rattle.rss_model.proofs.LogTurning.{changes_turn_back}
-use Rattle.rss_access.specs.Changes.{HasRoom, number_told}
+use Rattle.rss_access.specs.Changes.{HasRoomFor}
 use Rattle.rss_restart.proofs.Moving.{told_once}
 use Rattle.rss_store.specs.Changing.{access}
 use Rattle.rss_store.specs.Stores.{StoreView}
@@ -11,8 +11,8 @@ use Rattle.rss_store.proofs.Turning.{may_be_undone, takes_by}
 use Rattle.rss_store.proofs.Spelled.{can_alter}
 use Rattle.rss_store.proofs.store.DurableStore.undo.Goals as goal
 
-pub undo-requires-clause-may : goal.undo-requires-clause-may
-undo-requires-clause-may g c = can_alter c.requires.ready
+pub undo-requires : goal.undo-requires
+undo-requires g c = record { may = can_alter c.requires.ready }
 
 pub returns-in_default-clause-sound : goal.returns-in_default-clause-sound
 returns-in_default-clause-sound g c = λ place is told told_change tells room state t n own way. c.in_default.ensures.none told_change tells
@@ -32,7 +32,7 @@ returns-clause-takes g c =
 
 pub returns-clause-sound : goal.returns-clause-sound
 returns-clause-sound g c = λ place is on told_change tells room state t n own way.
-    let there = subst (λ (one : told.Change). HasRoom (access (view g.S.Pages.view c.args.self.now)) (number_told one)) (told_once tells c.in-Some.ensures.some) room in
+    let there = subst (λ (one : told.Change). HasRoomFor (access (view g.S.Pages.view c.args.self.now)) one) (told_once tells c.in-Some.ensures.some) room in
     may_be_undone changes_turn_back c.requires.ready state t n c.args.position own way c.in-Some.ensures.some (c.undo.ensures.sound place is on there)
 
 pub returns-clause-did : goal.returns-clause-did

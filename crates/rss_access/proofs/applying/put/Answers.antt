@@ -1,0 +1,24 @@
+use Rattle.std.proofs.Common.{arith, ap, length, length-append, ◌∙◌, ℕ, List}
+use Rattle.rss_access.proofs.Fronts.{short_insert, short_update, absent_insert}
+use Rattle.rss_access.proofs.applying.put.Goals as goal
+
+pub put_at-requires : goal.put_at-requires
+put_at-requires g c =
+    let long = ap (λ (b : List ℕ). length b) (c.as_slice.ensures.bytes ∙ c.with_values-body.ensures) in
+    let short = short_insert c.args.change.number c.args.change.tid c.in-Insert.is c.args.front c.requires.short in
+    let parts = length-append c.args.front c.in-Insert.values.now in
+    record {
+      may = record { segment = c.requires.segment; length = record { some = omega (arith, long, parts, c.requires.begun); most = omega (arith, long, short) } };
+      page = c.requires.named.page;
+      slot = c.requires.named.slot;
+      room = omega (arith, c.requires.may.spare);
+      heaps = c.requires.may.heaps;
+      absent = λ told. absent_insert c.args.change.number c.args.change.tid c.in-Insert.is c.args.front _ (c.requires.found told);
+    }
+
+pub update-requires-clause-put : goal.update-requires-clause-put
+update-requires-clause-put g c =
+    let long = ap (λ (b : List ℕ). length b) (c.as_slice-in-Update.ensures.bytes ∙ c.with_values-body-in-Update.ensures) in
+    let short = short_update c.args.change.number c.args.change.tid c.in-Update.is c.args.front c.requires.short in
+    let parts = length-append c.args.front c.in-Update.to.now in
+    record { segment = c.requires.segment; length = record { some = omega (arith, long, parts, c.requires.begun); most = omega (arith, long, short) } }
