@@ -1,5 +1,5 @@
-/* A store in a file: the calls of librss_c.a. crates/rss_c/README.md says how to build it, and what
-   its caller owes it. */
+/* A store in memory, and what a file is to do to keep it: the calls of librss_c.a.
+   crates/rss_c/README.md says how to build it, and what its caller owes it. */
 #ifndef RSS_H
 #define RSS_H
 
@@ -7,20 +7,22 @@
 #include <stddef.h>
 #include <stdint.h>
 
+enum { RSS_PAGE_BYTES = 4096 };
+
 /* How a call ended: the exit status of the program (docs/SCRIPT.md), or a number above these. */
 enum {
     RSS_OK = 0,
     RSS_WRITE_FAULT = 3,    /* a text found no room, which a line of the engine always does */
-    RSS_DEVICE_FAULT = 4,   /* the file isn't there, can't be opened or made, another process works
-                               on it, or a read, a write or a sync of it failed */
-    RSS_NOT_A_STORE = 5,    /* the layout of the file is out of form; the text tells the place */
+    RSS_DEVICE_FAULT = 4,   /* no memory was found for a step */
+    RSS_NOT_A_STORE = 5,    /* the layout of the bytes is out of form; the text tells the place */
     RSS_NO_MEMORY = 6,
     RSS_TOO_LONG = 7,       /* 2^32 - 2 calls were made since the opening */
     RSS_WRONG_SIZE = 8,     /* no store has so many slots and log pages */
     RSS_DAMAGED = 10,       /* something was found that no store has; the text ends with the place */
     RSS_NOT_OPEN = 20,      /* no store is open in the handle */
     RSS_ALREADY_OPEN = 21,  /* a store is open in the handle already */
-    RSS_STOPPED = 22        /* an earlier line ended with a status other than 0 */
+    RSS_STOPPED = 22,       /* an earlier line ended with a status other than 0 */
+    RSS_NO_LINE = 23        /* a generated script has no such line */
 };
 
 /* The handle of a store. It begins as {0}, and only the calls below change it. */
@@ -36,26 +38,55 @@ typedef struct {
     uint64_t faults;
 } rss_text;
 
+/* What a file is to do next. A store that was opened, or a line that was run, is in the file once the
+   file has done all steps up to then, in their order; a stop before that leaves a store too. If one
+   fails, close the store and open it anew from the file. */
+enum {
+    RSS_WRITE = 1,  /* write the page at the place `at`, counted in pages */
+    RSS_SYNC = 2,   /* bring to the disk what was written, and the size */
+    RSS_RESIZE = 3  /* become `at` pages long */
+};
+
+typedef struct {
+    uint32_t kind;
+    uint64_t at;
+    unsigned char page[RSS_PAGE_BYTES];
+} rss_step;
+
 /* What is counted of a store. */
 typedef struct {
+    uint64_t pages;    /* how many pages it has in memory, as its file has */
     uint64_t room;     /* how many slots may be needed, by the rule of room (docs/STORE.md) */
     uint64_t log_free; /* how many bytes the log has room for */
     uint32_t calls;    /* how many calls were made since the opening */
-    uint32_t slots;    /* how many slots its file has for pages */
+    uint32_t slots;    /* how many slots it has for pages */
     bool up;           /* it answers lines */
 } rss_counts;
 
-/* Makes the file at a path an empty store, whatever it held. It is made if there is none. */
-uint32_t rss_format(const char *path, size_t path_length, uint32_t slots, uint32_t log_pages);
+/* Makes an empty store and opens it. Its first steps make it in a file, whatever that held. */
+uint32_t rss_format(rss_store *store, uint32_t slots, uint32_t log_pages);
 
-/* Opens the store in the file at a path. If the file is no store, the text says where. */
-uint32_t rss_open(rss_store *store, const char *path, size_t path_length, rss_text *text);
+/* Opens the store of these bytes, those of its whole file. If they are no store, the text says where. */
+uint32_t rss_open(rss_store *store, const unsigned char *bytes, size_t length, rss_text *text);
 
 /* Runs a line of a script, without its end. The text is its reply, which may be empty. */
 uint32_t rss_run_line(rss_store *store, const char *line, size_t length, rss_text *text);
 
+/* Takes the next step that the file is to do, and answers whether there was one. */
+bool rss_next_step(rss_store *store, rss_step *step);
+
+/* Reads the page at a place, and answers whether there is one. */
+bool rss_page(rss_store *store, uint64_t at, unsigned char page[RSS_PAGE_BYTES]);
+
 /* Counts what there is of the store that is open, and answers whether one is. */
 bool rss_count(rss_store *store, rss_counts *counts);
+
+/* How many levels of nodes the image of this name has; 0 if none is defined or no store is open. */
+uint8_t rss_levels(rss_store *store, const char *name, size_t length);
+
+/* Writes line `at`, counted from 0, of the script that `rss gen NUMBER EMPLOYEES` writes, without its
+   end. */
+uint32_t rss_generated_line(uint64_t number, uint32_t employees, uint64_t at, rss_text *text);
 
 /* Closes the store that is open, if one is. What no `end` has committed is dropped. */
 void rss_close(rss_store *store);

@@ -235,6 +235,13 @@ impl<D: Device> Buffer<D> {
         }
     }
 
+    /// The device.
+    pub fn device(&self) -> &D
+        ensures { result.now ≡ device_of self.now }
+    {
+        &self.device
+    }
+
     /// The device, as the last call left it. Changed pages that were not written are dropped.
     pub fn into_device(self) -> D
         ensures { result ≡ device_of self }

@@ -19,8 +19,8 @@ use Rattle.std_alloc.proofs.BoxSteps.Form.{Bx}
 use Rattle.std.specs.contracts.alloc.Global as Heap
 use Rattle.std.specs.contracts.impls.GlobalAllocator.TheImpl.{ghosts, dict}
 use Rattle.std.proofs.alloc.Global.TheLaws as heap
-use Rattle.rss_c.specs.contracts.file_store.FileStore as Store
-use Rattle.rss_c.proofs.file_store.FileStore.TheLaws as store
+use Rattle.rss_c.specs.contracts.open_store.OpenStore as Store
+use Rattle.rss_c.proofs.open_store.OpenStore.TheLaws as store
 use Rattle.rss_c.specs.contracts.parts.Parts as Parts
 use Rattle.rss_c.specs.contracts.kept.Kept as Kept
 

@@ -7,13 +7,14 @@ use Rattle.rss_top.specs.Exit.{exit_status}
 use Rattle.rss_top.specs.declared.status.Status.{Status}
 use Rattle.rss_top.specs.declared.status.Status.TheVariants.{DeviceFault, NotAStore, Damaged, NoMemory, WrongSize}
 use Rattle.rss_c.specs.declared.ended.Ended.{Ended}
-use Rattle.rss_c.specs.declared.ended.Ended.TheVariants.{As, NotOpen, AlreadyOpen, Stopped}
+use Rattle.rss_c.specs.declared.ended.Ended.TheVariants.{As, NotOpen, AlreadyOpen, Stopped, NoLine}
 
 abbrev pub end_number : Ended → ℕ
 end_number (As status) = exit_status status
 end_number NotOpen = 20
 end_number AlreadyOpen = 21
 end_number Stopped = 22
+end_number NoLine = 23
 
 abbrev pub fault_status : OpenFault → Status
 fault_status DeviceFailed = DeviceFault

@@ -1,21 +1,26 @@
 -- What C's calls do to a handle.
-use Rattle.std.specs.Prelude.{◌≡◌, ℕ, Bool, true, false, List, Option, None, Some, IsSome, Result, Ok, Err}
+use Rattle.std.specs.Prelude.{◌≡◌, ◌≢◌, ◌⊎◌, ℕ, ◌<◌, ◌≤◌, Bool, true, false, List, slice_get, Option, None, Some, IsSome, Result, Ok, Err}
 use Rattle.rss_base.specs.Streams.{Stream}
-use Rattle.rss_store.specs.Formatted.{AreSizes}
+use Rattle.rss_base.specs.declared.fault.OpenFault.{OpenFault}
+use Rattle.rss_device.specs.StepDevice.{view_of}
+use Rattle.rss_model.specs.Generator.{generated, most_employees}
 use Rattle.rss_top.specs.Exit.{exit_status}
+use Rattle.rss_top.specs.Says.{Says}
 use Rattle.rss_top.specs.declared.status.Status.{Status}
-use Rattle.rss_top.specs.declared.status.Status.TheVariants.{Ok as Made, DeviceFault, NoMemory, WrongSize}
-use Rattle.rss_c.specs.Ends.{end_number}
+use Rattle.rss_top.specs.declared.status.Status.TheVariants.{Ok as Made, WriteFault, NoMemory}
+use Rattle.rss_c.specs.Ends.{end_number, fault_status, line_of}
 use Rattle.rss_c.specs.Texts.{empty_text}
-use Rattle.rss_c.specs.Stores.{IsFresh, IsUnopened, IsLineEnd, HasCounts}
+use Rattle.rss_c.specs.Stores.{device_in, AreRefused, HasCounts, HasPage, IsLevelsOf, IsLineEnd, IsMadeOf, IsOpenedOn, IsUnmade, TakesStep}
 use Rattle.rss_c.specs.declared.counts.RssCounts.{RssCounts}
 use Rattle.rss_c.specs.declared.ended.Ended.{Ended}
-use Rattle.rss_c.specs.declared.ended.Ended.TheVariants.{NotOpen, AlreadyOpen}
-use Rattle.rss_c.specs.declared.file_store.FileStore.{FileStore}
+use Rattle.rss_c.specs.declared.ended.Ended.TheVariants.{NotOpen, AlreadyOpen, NoLine}
+use Rattle.rss_c.specs.declared.open_store.OpenStore.{OpenStore}
 use Rattle.rss_c.specs.declared.handle.RssStore.{RssStore}
+use Rattle.rss_c.specs.declared.page.RssPage.{RssPage}
+use Rattle.rss_c.specs.declared.step.RssStep.{RssStep}
 
 -- the store that is open in a handle
-abbrev pub held : RssStore → Option FileStore
+abbrev pub held : RssStore → Option OpenStore
 held handle = handle.kept.store
 
 -- the number of a call's end
@@ -23,38 +28,73 @@ abbrev pub number_of : Result (Unit {0}) Ended → ℕ
 number_of (Ok done) = 0
 number_of (Err end) = end_number end
 
+-- A store was made where none was open; or none was, with a fault; or one is open already.
+pub data FormatsIn (slots log_pages number : ℕ) (before after : Option OpenStore) : Type 0 where
+  made : (new : OpenStore) → before ≡ None → after ≡ Some new → IsMadeOf slots log_pages new
+      → number ≡ exit_status Made
+      → FormatsIn slots log_pages number before after
+  unmade : (fault : OpenFault) → before ≡ None → after ≡ None → IsUnmade slots log_pages fault
+      → number ≡ exit_status (fault_status fault)
+      → FormatsIn slots log_pages number before after
+  already : IsSome before → after ≡ before → number ≡ end_number AlreadyOpen
+      → FormatsIn slots log_pages number before after
+
+-- A store was opened where none was open; or none was, with a fault, and the program's line about it
+-- was written; or one is open already.
+pub data OpensIn (bytes : List ℕ) (text : Stream) (number : ℕ) (before after : Option OpenStore) : Type 0 where
+  opened : (new : OpenStore) → before ≡ None → after ≡ Some new → IsOpenedOn bytes new
+      → text ≡ empty_text → number ≡ exit_status Made
+      → OpensIn bytes text number before after
+  refused : (fault : OpenFault) (status : Status) → before ≡ None → after ≡ None
+      → AreRefused bytes fault
+      → Says (fault_status fault) (line_of (fault_status fault)) status empty_text text
+      → number ≡ exit_status status
+      → OpensIn bytes text number before after
+  already : IsSome before → after ≡ before → text ≡ empty_text
+      → number ≡ end_number AlreadyOpen
+      → OpensIn bytes text number before after
+
 -- A line was run over the store that is open, and the answer is the number of its end; or none is
 -- open.
-pub data RunsIn (line : List ℕ) (text : Stream) (number : ℕ) (before after : Option FileStore) : Type 0 where
-  over : (old new : FileStore) (result : Result (Unit {0}) Ended)
+pub data RunsIn (line : List ℕ) (text : Stream) (number : ℕ) (before after : Option OpenStore) : Type 0 where
+  over : (old new : OpenStore) (result : Result (Unit {0}) Ended)
       → before ≡ Some old → after ≡ Some new
       → IsLineEnd old new line text result → number ≡ number_of result
       → RunsIn line text number before after
   none : before ≡ None → after ≡ None → text ≡ empty_text → number ≡ end_number NotOpen
       → RunsIn line text number before after
 
--- A store was opened where none was open; or none was, with a status; or one is open already.
-pub data OpensIn (text : Stream) (number : ℕ) (before after : Option FileStore) : Type 0 where
-  opened : (new : FileStore) → before ≡ None → after ≡ Some new → IsFresh new
-      → text ≡ empty_text → number ≡ exit_status Made
-      → OpensIn text number before after
-  refused : (status : Status) → before ≡ None → after ≡ None → IsUnopened text status
-      → number ≡ exit_status status
-      → OpensIn text number before after
-  already : IsSome before → after ≡ before → text ≡ empty_text
-      → number ≡ end_number AlreadyOpen
-      → OpensIn text number before after
+-- A step was taken of the store that is open; or there was none, or none is open.
+pub data TakesIn (step : RssStep) (found : Bool) (before after : Option OpenStore) : Type 0 where
+  taken : (old new : OpenStore) → before ≡ Some old → after ≡ Some new → TakesStep old new step
+      → found ≡ true
+      → TakesIn step found before after
+  none : after ≡ before → found ≡ false → TakesIn step found before after
 
--- A store is counted where one is open.
-abbrev pub CountsIn : RssCounts → Bool → Option FileStore → Type 0
-CountsIn counts found None = found ≡ false
-CountsIn counts found (Some store) = (found ≡ true) × HasCounts store counts
+-- A page is read where a store is open that has it.
+abbrev pub ReadsIn : ℕ → RssPage → Bool → Option OpenStore → Type 0
+ReadsIn at found there None = there ≡ false
+ReadsIn at found true (Some store) = HasPage store at found
+ReadsIn at found false (Some store) = (view_of (device_in store)).size ≤ at
 
--- A format ended with the number of one of these statuses, by whether a store can have the sizes.
-pub data FormatsAs (slots log_pages number : ℕ) : Type 0 where
-  made : AreSizes slots log_pages → number ≡ exit_status Made → FormatsAs slots log_pages number
-  failed : ((AreSizes slots log_pages → ⊥) → ⊥) → number ≡ exit_status DeviceFault
-      → FormatsAs slots log_pages number
-  wrong_size : (AreSizes slots log_pages → ⊥) → number ≡ exit_status WrongSize
-      → FormatsAs slots log_pages number
-  no_memory : number ≡ exit_status NoMemory → FormatsAs slots log_pages number
+-- A store is counted where one is open, and else nothing is changed.
+abbrev pub CountsIn : RssCounts → RssCounts → Bool → Option OpenStore → Type 0
+CountsIn old new found None = (found ≡ false) × (new ≡ old)
+CountsIn old new found (Some store) = (found ≡ true) × HasCounts store new
+
+-- the levels of an image, where a store is open
+abbrev pub LevelsIn : List ℕ → ℕ → Option OpenStore → Type 0
+LevelsIn name levels None = levels ≡ 0
+LevelsIn name levels (Some store) = IsLevelsOf store name levels
+
+-- A line of a generated script was written; or there is none; or the text or memory had no room.
+pub data GeneratesAs (number employees at : ℕ) (text : Stream) (end : ℕ) : Type 0 where
+  written : (line : List ℕ) → slice_get (generated number employees) at ≡ Some line
+      → text.bytes ≡ Some line → end ≡ exit_status Made
+      → GeneratesAs number employees at text end
+  none : (1 ≤ employees → employees ≤ most_employees
+      → slice_get (generated number employees) at ≡ None)
+      → text ≡ empty_text → end ≡ end_number NoLine
+      → GeneratesAs number employees at text end
+  failed : (end ≡ exit_status WriteFault) ⊎ (end ≡ exit_status NoMemory)
+      → GeneratesAs number employees at text end

@@ -7,7 +7,7 @@ use Rattle.std.specs.Coded.{coded_option}
 use Rattle.std.specs.Box.Ownership.{box_owns}
 use Rattle.std.specs.Global.{Global}
 use Rattle.std.specs.contracts.impls.GlobalAllocator.TheImpl.{ghosts}
-use Rattle.rss_c.specs.contracts.file_store.FileStore.{the_row}
+use Rattle.rss_c.specs.contracts.open_store.OpenStore.{the_row}
 
 abbrev pub kept_owns : Global → Ptr → Option the_row.Denot → Fml
 kept_owns alloc at None = ftrue

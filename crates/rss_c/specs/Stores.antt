@@ -1,46 +1,103 @@
--- How the calls of a store in a file end.
-use Rattle.std.specs.Prelude.{◌≡◌, ◌-◌, ◌^◌, ◌≤◌, min, ℕ, List, [], Result, Ok, Err, true, false}
+-- How the calls of a store that is open end.
+use Rattle.std.specs.Prelude.{◌≡◌, ◌≢◌, ◌⊎◌, ◌+◌, ◌-◌, ◌^◌, ◌<◌, ◌≤◌, ◌/◌, ◌%◌, min, ℕ, List, [], length, Option, Some, None, Result, Ok, Err, true, false}
+use Rattle.core.specs.Simd.{first_chunks}
+use Rattle.rss_base.specs.DiskRule.{Pages, Told, page}
+use Rattle.rss_base.specs.Listings.{IsUnlisted}
+use Rattle.rss_base.specs.Sizes.{page_bytes}
 use Rattle.rss_base.specs.Streams.{Stream}
 use Rattle.rss_base.specs.declared.fault.OpenFault.{OpenFault}
+use Rattle.rss_base.specs.declared.fault.OpenFault.TheVariants.{NotAStore, WrongSize, NoMemory}
+use Rattle.rss_base.specs.declared.name.Name.{Name}
+use Rattle.rss_base.specs.declared.place.Place.TheVariants.{Size}
+use Rattle.rss_base.specs.declared.refusal.Kind.TheVariants.{Image}
+use Rattle.rss_buffer.specs.Devices.{device_of}
+use Rattle.rss_device.specs.StepDevice.{view_of, steps_of, IsFresh}
+use Rattle.rss_device.specs.Steps.{IsStep}
+use Rattle.rss_device.specs.declared.step.Step.{Step}
+use Rattle.rss_device.specs.declared.step_device.StepDevice.{StepDevice}
 use Rattle.rss_log.specs.Logs.{free_of}
 use Rattle.rss_model.specs.Calls.{calls_most}
+use Rattle.rss_model.specs.Script.{IsNameWord}
+use Rattle.rss_model.specs.Store.{OpensTo}
+use Rattle.rss_model.specs.Tables.{no_tables}
 use Rattle.rss_session.specs.Sessions.{counts as counts_of}
 use Rattle.rss_session.specs.Weighing.{room_of}
-use Rattle.rss_rsi.specs.Parts.{session_of, view}
+use Rattle.rss_store.specs.Formatted.{AreSizes, HoldsFormatted}
+use Rattle.rss_store.specs.Opening.{IsRefused}
+use Rattle.rss_rsi.specs.Opening.{OpensOver}
+use Rattle.rss_rsi.specs.Parts.{pages_below, session_of, view}
+use Rattle.rss_rsi.specs.Scanning.{IsOfLevels}
 use Rattle.rss_top.specs.Lines.{View, seen_with, RunsLine}
 use Rattle.rss_top.specs.Says.{Says}
 use Rattle.rss_top.specs.declared.status.Status.{Status}
 use Rattle.rss_top.specs.declared.status.Status.TheVariants.{TooLong}
-use Rattle.rss_c.specs.Ends.{fault_status, line_of}
+use Rattle.rss_c.specs.Ends.{line_of}
+use Rattle.rss_c.specs.Steps.{HasStep}
 use Rattle.rss_c.specs.Texts.{empty_text}
 use Rattle.rss_c.specs.declared.counts.RssCounts.{RssCounts}
 use Rattle.rss_c.specs.declared.ended.Ended.{Ended}
 use Rattle.rss_c.specs.declared.ended.Ended.TheVariants.{As, Stopped}
-use Rattle.rss_c.specs.declared.file_store.FileStore.{FileStore}
+use Rattle.rss_c.specs.declared.open_store.OpenStore.{OpenStore}
+use Rattle.rss_c.specs.declared.page.RssPage.{RssPage}
+use Rattle.rss_c.specs.declared.step.RssStep.{RssStep}
+
+-- the device under a store
+abbrev pub device_in : OpenStore → StepDevice
+device_in store = device_of (pages_below store.engine)
 
 -- ---- an opening
 
--- A store that was just opened: it answers lines, was asked for no call, and no variable stands for
--- anything.
-pub record IsFresh (store : FileStore) : Type 0 where
+-- A store that was just opened over a device. It answers lines, no variable stands for anything, and no
+-- step was taken.
+pub record IsOver (device : StepDevice) (store : OpenStore) : Type 0 where
+  pub opened : OpensOver (view_of device) (view_of (device_in store)) (view store.engine)
   pub up : store.up ≡ true
-  pub calls : (view store.engine).calls ≡ 0
   pub names : store.names.variables ≡ []
+  pub next : store.next ≡ 0
 
--- An opening failed with a fault, and the program's line about it was written.
-pub record IsUnopened (text : Stream) (status : Status) : Type 0 where
-  pub fault : OpenFault
-  pub says : Says (fault_status fault) (line_of (fault_status fault)) status empty_text text
+-- these bytes are whole pages
+abbrev pub AreWhole : List ℕ → Type 0
+AreWhole bytes = length bytes % page_bytes ≡ 0
+
+-- the pages of which they are
+abbrev pub pages_in : List ℕ → Pages
+pages_in bytes = first_chunks page_bytes (length bytes / page_bytes) bytes
+
+-- It was opened over a device of these bytes, all synced.
+pub record IsOpenedOn (bytes : List ℕ) (store : OpenStore) : Type 0 where
+  pub whole : AreWhole bytes
+  pub device : StepDevice
+  pub fresh : IsFresh (pages_in bytes) device
+  pub over : IsOver device store
+
+-- These bytes don't open, and this is the fault.
+pub record AreRefused (bytes : List ℕ) (fault : OpenFault) : Type 0 where
+  pub torn : (AreWhole bytes → ⊥) → fault ≡ NotAStore Size
+  pub refused : AreWhole bytes → IsRefused (pages_in bytes) fault
+
+-- It was opened over a device that was made an empty store of these sizes.
+pub record IsMadeOf (slots log_pages : ℕ) (store : OpenStore) : Type 0 where
+  pub sizes : AreSizes slots log_pages
+  pub device : StepDevice
+  pub formatted : HoldsFormatted slots log_pages (view_of device).disk
+  pub opens : Told (view_of device).disk (λ pages.
+      OpensTo pages (record { slots = slots; log_pages = log_pages }) no_tables)
+  pub over : IsOver device store
+
+-- No store was made, with this fault. It tells sizes that no store has.
+pub record IsUnmade (slots log_pages : ℕ) (fault : OpenFault) : Type 0 where
+  pub wrong : (AreSizes slots log_pages → ⊥) → fault ≡ WrongSize
+  pub right : fault ≡ WrongSize → AreSizes slots log_pages → ⊥
 
 -- ---- a line
 
 -- what there is to see of a store, with a text
-abbrev pub seen_in : FileStore → Stream → View
+abbrev pub seen_in : OpenStore → Stream → View
 seen_in store text = seen_with store.names.variables (view store.engine) text
 
 -- A line was run; or it failed, and the program's line about that was written; or the store was asked
 -- for as many calls as it may be; or an earlier line has failed.
-pub data IsLineEnd (old new : FileStore) (line : List ℕ) (text : Stream) (result : Result (Unit {0}) Ended) : Type 0 where
+pub data IsLineEnd (old new : OpenStore) (line : List ℕ) (text : Stream) (result : Result (Unit {0}) Ended) : Type 0 where
   ran : result ≡ Ok tt → new.up ≡ true
       → RunsLine {T = Unit {0}} (seen_in old empty_text) (seen_in new text) line (Ok tt)
       → IsLineEnd old new line text result
@@ -55,14 +112,41 @@ pub data IsLineEnd (old new : FileStore) (line : List ℕ) (text : Stream) (resu
       → new ≡ old → text ≡ empty_text
       → IsLineEnd old new line text result
 
--- ---- counts
+-- ---- a step
+
+-- The step that was to be taken next is this one, and then the one behind it is.
+pub record TakesStep (old new : OpenStore) (step : RssStep) : Type 0 where
+  pub taken : Step
+  pub there : IsStep (steps_of (device_in old)) old.next taken
+  pub as : HasStep taken step
+  pub next : new.next ≡ old.next + 1
+  pub engine : new.engine ≡ old.engine
+  pub names : new.names ≡ old.names
+  pub up : new.up ≡ old.up
+
+-- ---- what there is of it
+
+-- its device reads so at this place
+pub record HasPage (store : OpenStore) (at : ℕ) (found : RssPage) : Type 0 where
+  pub within : at < (view_of (device_in store)).size
+  pub bytes : Told (view_of (device_in store)).disk (λ pages. found.bytes ≡ page pages at)
 
 -- what is counted of a store, by the clauses of its engine
-pub record HasCounts (store : FileStore) (counts : RssCounts) : Type 0 where
+pub record HasCounts (store : OpenStore) (counts : RssCounts) : Type 0 where
   pub up : counts.up ≡ store.up
+  pub pages : counts.pages ≡ (view_of (device_in store)).size
   pub calls : counts.calls ≡ (view store.engine).calls
   pub slots : counts.slots ≡ (view store.engine).slots
   pub room : counts.room ≡ min (room_of (session_of store.engine).heap
       (session_of store.engine).surviving (session_of store.engine).opened.since
       (counts_of (session_of store.engine)).images) (2 ^ 64 - 1)
   pub log_free : counts.log_free ≡ free_of (session_of store.engine).store.log
+
+-- an image of the name that is written so has this many levels; or none is defined, and they are 0
+pub data IsLevelsOf (store : OpenStore) (word : List ℕ) (levels : ℕ) : Type 0 where
+  defined : (name : Name) → IsNameWord word name
+      → IsOfLevels (session_of store.engine).store.catalog.listing name levels
+      → IsLevelsOf store word levels
+  none : ((name : Name) → IsNameWord word name
+      → IsUnlisted Image (session_of store.engine).store.catalog.listing name) → levels ≡ 0
+      → IsLevelsOf store word levels

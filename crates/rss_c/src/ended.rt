@@ -15,6 +15,8 @@ pub(crate) enum Ended {
     AlreadyOpen,
     /// An earlier line has ended the run, as the program's would have ended.
     Stopped,
+    /// A generated script has no such line.
+    NoLine,
 }
 
 impl Ended {
@@ -27,6 +29,7 @@ impl Ended {
             Ended::NotOpen => 20,
             Ended::AlreadyOpen => 21,
             Ended::Stopped => 22,
+            Ended::NoLine => 23,
         }
     }
 }

@@ -1,15 +1,17 @@
 // The calls of C. A slice is a pointer and a length there, and a `Global` no parameter.
 ghost use Rattle.std.specs.Prelude.{◌≡◌, None};
 ghost use Rattle.rss_c.specs.Texts.{text_view};
-ghost use Rattle.rss_c.specs.Handles.{held, number_of, CountsIn, FormatsAs, OpensIn, RunsIn};
+ghost use Rattle.rss_c.specs.Handles.{held, number_of, CountsIn, FormatsIn, GeneratesAs, LevelsIn, OpensIn, ReadsIn, RunsIn, TakesIn};
 
 use crate::counts::RssCounts;
 use crate::ended::Ended;
-use crate::file_store::{FileStore, status_of};
 use crate::handle::RssStore;
-use crate::path_device::PathDevice;
+use crate::open_store::OpenStore;
+use crate::page::RssPage;
+use crate::step::RssStep;
+use crate::telling::{status_of, tell, write_line};
 use crate::text::RssText;
-use rss_rsi::format;
+use rss_line::{MOST_EMPLOYEES, generate};
 use rss_top::Status;
 use std::alloc::Global;
 
@@ -23,42 +25,49 @@ fn number_of(end: Result<(), Ended>) -> u32
     }
 }
 
-/// Makes the file at a path an empty store of so many slots and log pages, whatever it held. Where
-/// there is none, it is made.
+/// Makes an empty store of so many slots and log pages, where none is open in the handle, and opens
+/// it. Its first steps make it in a file.
 #[unsafe(no_mangle)]
-pub extern "C" fn rss_format(alloc: Global, path: &[u8], slots: u32, log_pages: u32) -> u32
-    ensures { FormatsAs slots log_pages result }
+pub extern "C" fn rss_format(
+    alloc: Global,
+    store: &mut RssStore,
+    slots: u32,
+    log_pages: u32,
+) -> u32
+    ensures { FormatsIn slots log_pages result (held store.old) (held store.new) }
 {
-    let Ok(path) = Vec::from_slice(alloc, path) else {
-        return Ended::As(Status::NoMemory).number();
-    };
-    let mut device = PathDevice::new(path);
-    match format(alloc, &mut device, slots, log_pages) {
-        Ok(()) => 0,
+    if store.is_open() {
+        return Ended::AlreadyOpen.number();
+    }
+    match OpenStore::make(alloc, slots, log_pages) {
+        Ok(made) => {
+            store.put(made);
+            0
+        }
         Err(fault) => Ended::As(status_of(fault)).number(),
     }
 }
 
-/// Opens the store in the file at a path, where none is open in the handle.
+/// Opens the store of these bytes, where none is open in the handle.
 #[unsafe(no_mangle)]
 pub extern "C" fn rss_open(
     alloc: Global,
     store: &mut RssStore,
-    path: &[u8],
+    bytes: &[u8],
     text: &mut RssText,
 ) -> u32
-    ensures { OpensIn (text_view text.new) result (held store.old) (held store.new) }
+    ensures { OpensIn bytes.now (text_view text.new) result (held store.old) (held store.new) }
 {
     text.clear();
     if store.is_open() {
         return Ended::AlreadyOpen.number();
     }
-    match FileStore::open(alloc, path, text) {
+    match OpenStore::open(alloc, bytes) {
         Ok(opened) => {
             store.put(opened);
             0
         }
-        Err(status) => Ended::As(status).number(),
+        Err(fault) => Ended::As(tell(alloc, status_of(fault), text)).number(),
     }
 }
 
@@ -81,11 +90,43 @@ pub extern "C" fn rss_run_line(
     number_of(end)
 }
 
+/// Takes the next step that the store's file is to do, and answers whether there is one.
+#[unsafe(no_mangle)]
+pub extern "C" fn rss_next_step(alloc: Global, store: &mut RssStore, step: &mut RssStep) -> bool
+    ensures { TakesIn step.new result (held store.old) (held store.new) }
+{
+    let Some(mut open) = store.take(alloc) else {
+        return false;
+    };
+    let taken = open.take_step(step);
+    store.put(open);
+    taken
+}
+
+/// Reads a page of the store, and answers whether there is one at this place.
+#[unsafe(no_mangle)]
+pub extern "C" fn rss_page(
+    alloc: Global,
+    store: &mut RssStore,
+    at: u64,
+    page: &mut RssPage,
+) -> bool
+    ensures same { held store.new ≡ held store.old }
+    ensures page { ReadsIn at page.new result (held store.old) }
+{
+    let Some(open) = store.take(alloc) else {
+        return false;
+    };
+    let found = open.read(at, page);
+    store.put(open);
+    found
+}
+
 /// Counts what there is of the store that is open, and answers whether one is.
 #[unsafe(no_mangle)]
 pub extern "C" fn rss_count(alloc: Global, store: &mut RssStore, counts: &mut RssCounts) -> bool
     ensures same { held store.new ≡ held store.old }
-    ensures counts { CountsIn counts.new result (held store.old) }
+    ensures counts { CountsIn counts.old counts.new result (held store.old) }
 {
     let Some(open) = store.take(alloc) else {
         return false;
@@ -95,8 +136,44 @@ pub extern "C" fn rss_count(alloc: Global, store: &mut RssStore, counts: &mut Rs
     true
 }
 
-/// Closes the store that is open, if one is, and with it its file. What no `end` has committed is
-/// dropped.
+/// How many levels of nodes the image of this name has; 0 if none is defined, or no store is open.
+#[unsafe(no_mangle)]
+pub extern "C" fn rss_levels(alloc: Global, store: &mut RssStore, name: &[u8]) -> u8
+    ensures same { held store.new ≡ held store.old }
+    ensures levels { LevelsIn name.now result (held store.old) }
+{
+    let Some(open) = store.take(alloc) else {
+        return 0;
+    };
+    let levels = open.levels(name);
+    store.put(open);
+    levels
+}
+
+/// Writes line `at` of the script that is generated from a number, with so many employees, if there
+/// is one. The lines are counted from 0.
+#[unsafe(no_mangle)]
+pub extern "C" fn rss_generated_line(
+    alloc: Global,
+    number: u64,
+    employees: u32,
+    at: u64,
+    text: &mut RssText,
+) -> u32
+    ensures { GeneratesAs number employees at (text_view text.new) result }
+{
+    text.clear();
+    if employees == 0 || employees > MOST_EMPLOYEES {
+        return Ended::NoLine.number();
+    }
+    match generate(alloc, number, employees, at) {
+        Ok(Some(line)) => number_of(write_line(&line, text)),
+        Ok(None) => Ended::NoLine.number(),
+        Err(_) => Ended::As(Status::NoMemory).number(),
+    }
+}
+
+/// Closes the store that is open, if one is. What no `end` has committed is dropped.
 #[unsafe(no_mangle)]
 pub extern "C" fn rss_close(alloc: Global, store: &mut RssStore)
     ensures { held store.new ≡ None }

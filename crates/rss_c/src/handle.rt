@@ -3,7 +3,7 @@ ghost use Rattle.std.specs.Prelude.{◌≡◌, None, Some, IsSome, option_map, t
 ghost use Rattle.std.specs.Coded.{Coded-set};
 ghost use Rattle.rss_c.specs.Kept.{store_coded};
 
-use crate::file_store::FileStore;
+use crate::open_store::OpenStore;
 use crate::kept::Kept;
 use std::alloc::Global;
 use std::mem::replace;
@@ -28,7 +28,7 @@ impl RssStore {
     }
 
     /// Takes the store out, if one is open in it. Then none is.
-    pub(crate) fn take(&mut self, alloc: Global) -> Option<Box<FileStore>>
+    pub(crate) fn take(&mut self, alloc: Global) -> Option<Box<OpenStore>>
         ensures taken { option_map (λ store. store.value) result ≡ held self.old }
         ensures none { held self.new ≡ None }
     {
@@ -40,7 +40,7 @@ impl RssStore {
     }
 
     /// Puts a store in, where none is open.
-    pub(crate) fn put(&mut self, store: Box<FileStore>)
+    pub(crate) fn put(&mut self, store: Box<OpenStore>)
         requires { held self.old ≡ None }
         ensures { held self.new ≡ Some store.value }
     {

@@ -1,9 +1,9 @@
 // A store as C keeps it: a box as its pointer, or none.
 ghost use Rattle.std.specs.Prelude.{◌≡◌, Option, None, Some, IsSome};
 ghost use Rattle.rss_c.specs.Kept.{store_coded, kept_owns};
-ghost use Rattle.rss_c.specs.declared.file_store.FileStore.{FileStore};
+ghost use Rattle.rss_c.specs.declared.open_store.OpenStore.{OpenStore};
 
-use crate::file_store::FileStore;
+use crate::open_store::OpenStore;
 use crate::parts::Parts;
 use std::alloc::Global;
 use std::marker::Model;
@@ -21,7 +21,7 @@ pub struct Unseen {
 pub struct Kept {
     at: *mut Unseen,
     alloc: Global,
-    pub(crate) ghost store: { Option FileStore } by { store_coded },
+    pub(crate) ghost store: { Option OpenStore } by { store_coded },
 }
 
 impl Model for Kept {
@@ -45,20 +45,20 @@ impl Kept {
         let Kept { at: _, alloc: _ } = self;
     }
 
-    pub(crate) fn of(store: Box<FileStore>) -> Kept
+    pub(crate) fn of(store: Box<OpenStore>) -> Kept
         ensures { result.store ≡ Some store.value }
     {
         Kept::of_parts(Parts::of(store))
     }
 
-    pub(crate) fn into_box(self) -> Box<FileStore>
+    pub(crate) fn into_box(self) -> Box<OpenStore>
         requires { IsSome self.store }
         ensures { Some result.value ≡ self.store }
     {
         self.into_parts().into_box()
     }
 
-    fn of_parts(parts: Parts<FileStore, Global>) -> Kept
+    fn of_parts(parts: Parts<OpenStore, Global>) -> Kept
         ensures { result.store ≡ Some parts.value }
     {
         let Parts { ptr, alloc } = parts;
@@ -68,13 +68,13 @@ impl Kept {
         }
     }
 
-    fn into_parts(self) -> Parts<FileStore, Global>
+    fn into_parts(self) -> Parts<OpenStore, Global>
         requires { IsSome self.store }
         ensures { Some result.value ≡ self.store }
     {
         let Kept { at, alloc } = self;
         Parts {
-            ptr: at as *mut FileStore,
+            ptr: at as *mut OpenStore,
             alloc,
         }
     }

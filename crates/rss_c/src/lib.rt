@@ -1,16 +1,16 @@
-//! A store in a file for C, and for what calls C: it is made, opened, asked by the lines of a script,
-//! and closed. `examples/c/rss.h` declares the calls.
+//! A store for C, and for what calls C: it is made, opened, asked by the lines of a script, and closed.
+//! It makes no call of the system: it hands out what a file is to do, step by step. `examples/c/rss.h`
+//! declares the calls.
 #![tactic(auto)]
 
 mod counts;
 mod ended;
 mod exports;
-mod file_store;
 mod handle;
 mod kept;
-mod open_file;
-mod paged_file;
+mod open_store;
+mod page;
 mod parts;
-mod path_device;
+mod step;
 mod telling;
 mod text;

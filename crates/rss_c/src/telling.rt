@@ -1,11 +1,13 @@
-// The lines about a device that is no store.
-ghost use Rattle.std.specs.Prelude.{◌≡◌, IfOk};
+// The lines that are written to a text.
+ghost use Rattle.std.specs.Prelude.{◌≡◌, IfOk, OnOk};
+ghost use Rattle.rss_base.specs.Streams.{Takes};
 ghost use Rattle.rss_top.specs.Says.{Says};
 ghost use Rattle.rss_c.specs.Texts.{text_view};
-ghost use Rattle.rss_c.specs.Ends.{line_of};
+ghost use Rattle.rss_c.specs.Ends.{fault_status, line_of};
 
+use crate::ended::Ended;
 use crate::text::RssText;
-use rss_base::write_all;
+use rss_base::{OpenFault, write_all};
 use rss_line::{say_damaged, say_not_a_store};
 use rss_top::Status;
 use std::alloc::{AllocError, Global};
@@ -39,5 +41,28 @@ pub(crate) fn tell(alloc: Global, status: Status, text: &mut RssText) -> Status
     match write_all(text, line.as_slice()) {
         Ok(()) => status,
         Err(_) => Status::WriteFault,
+    }
+}
+
+/// Writes a line, without its end.
+pub(crate) fn write_line(line: &[u8], text: &mut RssText) -> Result<(), Ended>
+    ensures { OnOk result (Takes (text_view text.old).bytes line.now (text_view text.new).bytes) }
+{
+    match write_all(text, line) {
+        Ok(()) => Ok(()),
+        Err(_) => Err(Ended::As(Status::WriteFault)),
+    }
+}
+
+/// How the program ends where an opening fails so.
+pub(crate) fn status_of(fault: OpenFault) -> Status
+    ensures { result ≡ fault_status fault }
+{
+    match fault {
+        OpenFault::Device => Status::DeviceFault,
+        OpenFault::NotAStore(place) => Status::NotAStore(place),
+        OpenFault::Damaged(place) => Status::Damaged(place),
+        OpenFault::WrongSize => Status::WrongSize,
+        OpenFault::NoMemory => Status::NoMemory,
     }
 }

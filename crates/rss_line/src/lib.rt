@@ -27,6 +27,7 @@ mod word;
 pub use fault::LineFault;
 pub use generating::{MOST_EMPLOYEES, count_generated, generate};
 pub use laws::lines_spell_once;
+pub use name::read_name;
 pub use names::Names;
 pub use number::read_number;
 pub use reading::{LINE_LIMIT, Line, read_line};

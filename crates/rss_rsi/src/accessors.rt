@@ -78,6 +78,13 @@ impl<S: Saving> Rss<S> {
         self.session.store.log_free()
     }
 
+    /// The pages.
+    pub fn pages(&self) -> &S
+        ensures { result.now ≡ pages_below self.now }
+    {
+        self.session.pages()
+    }
+
     /// The pages, as the last call left them.
     pub fn into_pages(self) -> S
         ensures { result ≡ pages_below self }

@@ -52,6 +52,13 @@ impl<S: Saving> Session<S> {
             .saturating_mul(2)
     }
 
+    /// The pages.
+    pub fn pages(&self) -> &S
+        ensures { result.now ≡ self.now.store.tuples.pages }
+    {
+        self.store.pages()
+    }
+
     /// The pages, as the last call left them.
     pub fn into_pages(self) -> S
         ensures { result ≡ self.store.tuples.pages }

@@ -42,7 +42,7 @@ refused_broken {pages = pages} place broken = record {
 refused_device : (pages : Pages) → IsRefused pages DeviceFailed
 refused_device pages = record { broken = λ place is. absurd (cc); names = λ place there. inr (inl refl); no_store = λ place is. absurd (cc); only_overfull = λ is. absurd (cc); overfull = λ over. inr (inl refl); spent = λ stored store past. inr (inl refl) }
 
-refused_memory : (pages : Pages) → IsRefused pages LacksMemory
+pub refused_memory : (pages : Pages) → IsRefused pages LacksMemory
 refused_memory pages = record { broken = λ place is. absurd (cc); names = λ place there. inr (inr refl); no_store = λ place is. absurd (cc); only_overfull = λ is. absurd (cc); overfull = λ over. inr (inr refl); spent = λ stored store past. inr (inr refl) }
 
 -- a fault of the layout that names the place

@@ -82,6 +82,13 @@ impl<S: Saving> DurableStore<S> {
         (pieces * PIECE_LENGTH - 1).saturating_sub(end + size)
     }
 
+    /// The pages.
+    pub fn pages(&self) -> &S
+        ensures { result.now ≡ self.now.tuples.pages }
+    {
+        self.tuples.pages()
+    }
+
     /// The pages, as the last call left them.
     pub fn into_pages(self) -> S
         ensures { result ≡ self.tuples.pages }

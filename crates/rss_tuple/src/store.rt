@@ -31,6 +31,13 @@ impl<P: Pages> Store<P> {
         }
     }
 
+    /// The pages.
+    pub fn pages(&self) -> &P
+        ensures { result.now ≡ self.now.pages }
+    {
+        &self.pages
+    }
+
     /// The pages, as the last call left them.
     pub fn into_pages(self) -> P
         ensures { result ≡ self.pages }

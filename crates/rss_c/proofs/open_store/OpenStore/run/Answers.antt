@@ -1,7 +1,7 @@
 use Rattle.std.proofs.Common.{refl}
 use Rattle.rss_c.specs.Texts.{text_view}
 use Rattle.rss_c.specs.Stores.{failed}
-use Rattle.rss_c.proofs.file_store.FileStore.run.Goals as goal
+use Rattle.rss_c.proofs.open_store.OpenStore.run.Goals as goal
 
 pub returns : goal.returns
 returns c =

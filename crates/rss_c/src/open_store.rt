@@ -1,0 +1,212 @@
+// A store that is open, with the variables of its lines and the steps of its device.
+ghost use Rattle.std.specs.Prelude.{◌≡◌, true};
+ghost use Rattle.rss_rsi.specs.Parts.{view};
+
+use crate::counts::RssCounts;
+use crate::ended::Ended;
+use crate::page::RssPage;
+use crate::step::RssStep;
+use crate::telling::tell;
+use crate::text::RssText;
+use rss_base::{OpenFault, PAGE_BYTES, Page, Place};
+use rss_buffer::Buffer;
+use rss_device::{StepDevice, Taken};
+use rss_line::{Names, read_name};
+use rss_model::{CALLS_MOST, Engine};
+use rss_rsi::{MOST_FRAMES, Rss, format, open};
+use rss_top::{Status, run_line};
+use std::alloc::{AllocError, Global};
+
+/// A store that is open, with the variables of the lines that were run over it.
+pub struct OpenStore {
+    engine: Rss<Buffer<StepDevice>>,
+    names: Names,
+    /// It answers lines. After one that failed it doesn't.
+    up: bool,
+    taken: Taken,
+    /// The number of the step that is taken next.
+    next: u64,
+    ghost ready: { up ≡ true → (view engine).is_up },
+}
+
+impl OpenStore {
+    ghost use Rattle.std.specs.Prelude.{◌≡◌, ◌≤◌, false, IfErr, IfOk, IsTrue};
+    ghost use Rattle.rss_device.specs.StepDevice.{view_of};
+    ghost use Rattle.rss_store.specs.Opening.{IsUnopened};
+    ghost use Rattle.rss_c.specs.Texts.{text_view, empty_text};
+    ghost use Rattle.rss_c.specs.Stores.{device_in, AreRefused, IsMadeOf, IsOpenedOn, IsOver, IsUnmade};
+    ghost use Rattle.rss_c.specs.Stores.{HasCounts, HasPage, IsLevelsOf, IsLineEnd, TakesStep};
+
+    /// Opens the store of these bytes.
+    pub(crate) fn open(alloc: Global, bytes: &[u8]) -> Result<Box<OpenStore>, OpenFault>
+        ensures opened { IfOk result (λ store. IsOpenedOn bytes.now store.value) }
+        ensures refused { IfErr result (AreRefused bytes.now) }
+    {
+        let (pages, rest) = bytes.as_chunks::<PAGE_BYTES>();
+        if !rest.is_empty() {
+            return Err(OpenFault::NotAStore(Place::Size));
+        }
+        let pages = Vec::from_slice(alloc, pages).map_err(|_| OpenFault::NoMemory)?;
+        let (device, taken) = device_of(alloc, pages).map_err(|_| OpenFault::NoMemory)?;
+        OpenStore::over(alloc, device, taken)
+    }
+
+    /// Makes an empty store of so many slots and log pages, and opens it.
+    pub(crate) fn make(
+        alloc: Global,
+        slots: u32,
+        log_pages: u32,
+    ) -> Result<Box<OpenStore>, OpenFault>
+        ensures made { IfOk result (λ store. IsMadeOf slots log_pages store.value) }
+        ensures unmade { IfErr result (IsUnmade slots log_pages) }
+    {
+        let (mut device, taken) =
+            device_of(alloc, Vec::new(alloc)).map_err(|_| OpenFault::NoMemory)?;
+        format(alloc, &mut device, slots, log_pages)?;
+        OpenStore::over(alloc, device, taken)
+    }
+
+    /// Opens the store on a device, of whose steps none was taken.
+    fn over(
+        alloc: Global,
+        device: StepDevice,
+        taken: Taken,
+    ) -> Result<Box<OpenStore>, OpenFault>
+        ensures opened { IfOk result (λ store. IsOver device store.value) }
+        ensures refused { IfErr result (IsUnopened (view_of device)) }
+    {
+        let engine = match open(alloc, device, MOST_FRAMES) {
+            Ok(engine) => engine,
+            Err(unopened) => return Err(unopened.fault),
+        };
+        let store = OpenStore {
+            engine,
+            names: Names::new(alloc),
+            up: true,
+            taken,
+            next: 0,
+        };
+        match Box::new(alloc, store) {
+            Ok(store) => Ok(store),
+            Err(_) => Err(OpenFault::NoMemory),
+        }
+    }
+
+    /// Runs a line. Its reply is in the text; where the store was found to be damaged, the program's
+    /// line about that.
+    pub(crate) fn run(
+        &mut self,
+        alloc: Global,
+        line: &[u8],
+        text: &mut RssText,
+    ) -> Result<(), Ended>
+        requires { text_view text.old ≡ empty_text }
+        ensures { IsLineEnd self.old self.new line.now (text_view text.new) result }
+    {
+        if !self.up {
+            return Err(Ended::Stopped);
+        }
+        if self.engine.calls() >= CALLS_MOST {
+            return Err(Ended::As(Status::TooLong));
+        }
+        self.up = false;
+        let mut reply = Vec::new(alloc);
+        let ran = run_line(
+            &mut self.engine,
+            alloc,
+            &mut self.names,
+            line,
+            &mut reply,
+            text,
+        );
+        match ran {
+            Ok(()) => {
+                self.up = true;
+                Ok(())
+            }
+            Err(status) => Err(Ended::As(tell(alloc, status, text))),
+        }
+    }
+
+    /// The device under it.
+    fn device(&self) -> &StepDevice
+        ensures { result.now ≡ device_in self.now }
+    {
+        self.engine.pages().device()
+    }
+
+    /// Takes the next step of its device, if there is one.
+    pub(crate) fn take_step(&mut self, step: &mut RssStep) -> bool
+        ensures taken { IsTrue result → TakesStep self.old self.new step.new }
+        ensures none { result ≡ false → self.new ≡ self.old }
+    {
+        let Some(next) = self.next.checked_add(1) else {
+            return false;
+        };
+        let Some(taken) = self.device().step(self.next) else {
+            return false;
+        };
+        step.put(taken);
+        self.next = next;
+        self.taken.set(next);
+        true
+    }
+
+    /// Reads a page of its device, if there is one at this place.
+    pub(crate) fn read(&self, at: u64, page: &mut RssPage) -> bool
+        ensures there { IsTrue result → HasPage self.now at page.new }
+        ensures none { result ≡ false → (view_of (device_in self.now)).size ≤ at }
+    {
+        let Some(found) = self.device().pages().get(at as usize) else {
+            return false;
+        };
+        page.put(found);
+        true
+    }
+
+    /// How many levels of nodes the image of this name has; 0 if none is defined.
+    pub(crate) fn levels(&self, name: &[u8]) -> u8
+        ensures { IsLevelsOf self.now name.now result }
+    {
+        let Some(name) = read_name(name) else {
+            return 0;
+        };
+        self.engine.levels(&name).unwrap_or(0)
+    }
+
+    /// What is counted of the store.
+    pub(crate) fn counts(&self) -> RssCounts
+        ensures { HasCounts self.now result }
+    {
+        RssCounts {
+            up: self.up,
+            pages: self.device().pages().len() as u64,
+            calls: self.engine.calls(),
+            slots: self.engine.slots(),
+            room: self.engine.room(),
+            log_free: self.engine.log_free(),
+        }
+    }
+}
+
+impl Drop for OpenStore {
+    fn drop(self) {
+        let OpenStore {
+            engine,
+            names: _,
+            up: _,
+            taken: _,
+            next: _,
+        } = self;
+        drop(engine.into_pages().into_device());
+    }
+}
+
+/// A device of these pages, and the count of its steps that were taken.
+fn device_of(alloc: Global, pages: Vec<Page>) -> Result<(StepDevice, Taken), AllocError>
+    ensures { IfOk result (λ made. IsFresh pages.items made.0) }
+{
+    let taken = Taken::new(alloc)?;
+    let device = StepDevice::new(alloc, pages, taken.shared()?);
+    Ok((device, taken))
+}
