@@ -3,17 +3,16 @@ use Rattle.std.proofs.Common.{◌≡◌, ℕ, ◌+◌, ◌<◌, length, set, ◌
 use Rattle.std.proofs.lemmas.Bool.{cases_lt}
 use Rattle.rss_base.proofs.Moments.{writes_then, writes_one}
 use Rattle.rss_base.specs.DiskRule.{Pages, Places, IsAt, page}
-use Rattle.rss_device.specs.MemDevice.{OnlyTouches}
-use Rattle.rss_device.specs.declared.memory.MemDevice.{MemDevice}
+use Rattle.rss_base.specs.Devices.{DeviceView}
+use Rattle.rss_device.specs.Memory.{OnlyTouches}
 
 -- one of these pages more
-pub touches_more : {places : Places} {at : ℕ} {old mid new : MemDevice} → places at → OnlyTouches places old mid → OnlyTouches (IsAt at) mid new → OnlyTouches places old new
+pub touches_more : {places : Places} {at : ℕ} {old mid new : DeviceView} → places at → OnlyTouches places old mid → OnlyTouches (IsAt at) mid new → OnlyTouches places old new
 touches_more inside before one = record {
   only = writes_then before.only (writes_one inside one.only);
   size = one.size ∙ before.size;
   writes = one.writes ∙ before.writes;
   faults = one.faults ∙ before.faults;
-  calls = one.calls ∙ before.calls;
 }
 
 -- one page of the run more

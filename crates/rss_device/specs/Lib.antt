@@ -8,3 +8,6 @@ pub mod MemSink
 pub mod MemPages
 pub mod MemPagesLaws
 pub mod Files
+pub mod Past
+pub mod Steps
+pub mod StepDevice

@@ -1,6 +1,6 @@
 -- A device in memory: what it tells, its moments, and the calls of it that fail.
 use Rattle.std.specs.Prelude.{◌≡◌, ℕ, List, [], length, take, Some, Contains, Result, IsErr}
-use Rattle.rss_base.specs.DiskRule.{Pages, LeavesOnly, Places, WritesIn}
+use Rattle.rss_base.specs.DiskRule.{Pages, LeavesOnly}
 use Rattle.rss_base.specs.Devices.{DeviceView}
 use Rattle.rss_base.specs.Faults.{counted}
 use Rattle.rss_device.specs.Memory.{Held, replay, at_first, writes_in, disk_of}
@@ -31,14 +31,6 @@ failing_calls device = device.calls.failing.items
 -- the number of the next call
 abbrev pub next_call : MemDevice → ℕ
 next_call device = device.calls.next
-
--- Pages were written or torn in these places alone, and no write, fault or call was counted.
-pub record OnlyTouches (places : Places) (old new : MemDevice) : Type 0 where
-  pub only : WritesIn places (view_of old).disk (view_of new).disk
-  pub size : (view_of new).size ≡ (view_of old).size
-  pub writes : (view_of new).writes ≡ (view_of old).writes
-  pub faults : (view_of new).faults ≡ (view_of old).faults
-  pub calls : new.calls ≡ old.calls
 
 -- It holds these pages, all synced, and nothing was done with it.
 pub record IsFresh (pages : Pages) (device : MemDevice) : Type 0 where

@@ -1,7 +1,8 @@
 -- A device in memory, by what it held at first and what has happened to it since.
 use Rattle.std.specs.Prelude.{◌≡◌, ◌⊎◌, ℕ, zero, suc, ◌-◌, ◌<◌, List, [], ◌∷◌, ◌++◌, length, take, replicate, slice_set, Some, All, Bool, true, false, count_by}
 use Rattle.rss_base.specs.Sizes.{page_bytes, zero_page}
-use Rattle.rss_base.specs.DiskRule.{Disk, Pages, page}
+use Rattle.rss_base.specs.DiskRule.{Disk, Pages, page, Places, WritesIn}
+use Rattle.rss_base.specs.Devices.{DeviceView}
 use Rattle.rss_device.specs.declared.event.Event.{Event}
 use Rattle.rss_device.specs.declared.event.Event.TheVariants.{Wrote, Torn, Synced, Sized}
 
@@ -71,6 +72,13 @@ disk_of first events pages = record {
 -- the pages are those that the events left
 abbrev pub IsKept : Pages → List Event → Pages → Type 0
 IsKept first events pages = pages ≡ (replay (at_first first) events).pages
+
+-- Pages were written or torn in these places alone, and no write and no fault was counted.
+pub record OnlyTouches (places : Places) (old new : DeviceView) : Type 0 where
+  pub only : WritesIn places old.disk new.disk
+  pub size : new.size ≡ old.size
+  pub writes : new.writes ≡ old.writes
+  pub faults : new.faults ≡ old.faults
 
 -- a page was written, also by a write that failed
 abbrev pub is_write : Event → Bool

@@ -31,7 +31,8 @@ impl MemDevice {
     ghost use Rattle.rss_base.specs.Devices.{OnlyReads};
     ghost use Rattle.rss_device.specs.Stop.{IsLeft};
     ghost use Rattle.rss_device.specs.MemDevice.{view_of, IsFresh, held_at, writes_by};
-    ghost use Rattle.rss_device.specs.MemDevice.{failing_calls, next_call, OnlyTouches};
+    ghost use Rattle.rss_device.specs.MemDevice.{failing_calls, next_call};
+    ghost use Rattle.rss_device.specs.Memory.{OnlyTouches};
 
     /// A device of these pages, all synced.
     pub fn new(alloc: Global, pages: Vec<Page>) -> Result<Self, AllocError>
@@ -127,7 +128,8 @@ impl MemDevice {
         requires { at < (view_of self.old).size }
         ensures written { OnOk result (self.new.pages.items
             ≡ slice_set self.old.pages.items at from.now) }
-        ensures only { OnlyTouches (IsAt at) self.old self.new }
+        ensures only { OnlyTouches (IsAt at) (view_of self.old) (view_of self.new) }
+        ensures calls { self.new.calls ≡ self.old.calls }
     {
         self.events.push(Event::Wrote(at, *from))?;
         self.pages[at as usize] = *from;
@@ -137,7 +139,8 @@ impl MemDevice {
     /// Tears a page, where memory is found for the event. It still reads as before.
     fn tear(&mut self, at: u64)
         requires { at < (view_of self.old).size }
-        ensures { OnlyTouches (IsAt at) self.old self.new }
+        ensures only { OnlyTouches (IsAt at) (view_of self.old) (view_of self.new) }
+        ensures calls { self.new.calls ≡ self.old.calls }
     {
         let _ = self.events.push(Event::Torn(at));
     }

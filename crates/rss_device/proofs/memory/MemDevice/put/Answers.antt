@@ -17,5 +17,4 @@ returns-clause-only c =
       size = search rules;
       writes = refl;
       faults = refl;
-      calls = refl;
     }

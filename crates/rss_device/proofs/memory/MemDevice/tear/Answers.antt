@@ -7,8 +7,8 @@ use Rattle.rss_device.proofs.memory.MemDevice.tear.Goals as goal
 pub invariant_of-self-clause-kept : goal.invariant_of-self-clause-kept
 invariant_of-self-clause-kept c = ⊎_elim (λ pushed. kept_after _ _ _ c.args.self.now.kept _ (Torn c.args.at) _ pushed c.args.self.now.kept) (λ same. kept_same _ _ _ _ same c.args.self.now.kept) (either (is_ok c.push.result) c.push.ensures.items)
 
-pub returns : goal.returns
-returns c = record {
+pub returns-clause-only : goal.returns-clause-only
+returns-clause-only c = record {
   only = written_none _ _ _ _ c.args.at (⊎_elim
       (λ pushed. tears _ _ _ c.args.self.now.kept _ _ _ c.requires pushed)
       (λ same. stays _ _ _ _ _ same)
@@ -16,5 +16,4 @@ returns c = record {
   size = refl;
   writes = refl;
   faults = refl;
-  calls = refl;
 }

@@ -1,0 +1,72 @@
+// The steps of a device.
+ghost use Rattle.std.specs.Prelude.{◌≡◌, length};
+
+use crate::past::Past;
+use crate::step::Step;
+use crate::taken::Taken;
+use rss_base::Page;
+use std::alloc::{AllocError, Global};
+
+/// The steps of a device, numbered from 0. One that was taken needn't be kept.
+#[derive(Drop)]
+pub(crate) struct Steps {
+    kept: Vec<Step>,
+    /// How many came before those, and were let go.
+    gone: u64,
+    taken: Taken,
+    past: Past,
+    ghost numbered: { gone ≡ length past.steps },
+}
+
+impl Steps {
+    ghost use Rattle.std.specs.Prelude.{◌⊎◌, ◌∷◌, ◌++◌, ◌<◌, ◌≤◌, [], IfSome, IsErr, IsNone, OnOk};
+    ghost use Rattle.rss_device.specs.Steps.{all_steps, IsStep};
+
+    pub(crate) fn new(alloc: Global, first: &[Page], taken: Taken) -> Steps
+        ensures first { result.past.first ≡ first.now }
+        ensures none { all_steps result ≡ [] }
+    {
+        Steps {
+            kept: Vec::new(alloc),
+            gone: 0,
+            taken,
+            past: Past::of(first),
+        }
+    }
+
+    /// Step number `k`, if it is kept.
+    pub(crate) fn get(&self, k: u64) -> Option<&Step>
+        ensures step { IfSome result (λ step. IsStep (all_steps self.now) k step.now) }
+        ensures none { IsNone result → (length (all_steps self.now) ≤ k) ⊎ (k < self.now.gone) }
+    {
+        let behind = k.checked_sub(self.gone)?;
+        self.kept.get(behind as usize)
+    }
+
+    /// Keeps one more step, where memory is found for it. Where all others were taken, they are let
+    /// go first.
+    pub(crate) fn note(&mut self, step: Step) -> Result<(), AllocError>
+        ensures noted { OnOk result (all_steps self.new ≡ all_steps self.old ++ step ∷ []) }
+        ensures same { IsErr result → all_steps self.new ≡ all_steps self.old }
+        ensures first { self.new.past.first ≡ self.old.past.first }
+    {
+        self.let_go();
+        self.kept.push(step)?;
+        Ok(())
+    }
+
+    /// Lets the steps go that are kept, if all of them were taken.
+    fn let_go(&mut self)
+        ensures steps { all_steps self.new ≡ all_steps self.old }
+        ensures first { self.new.past.first ≡ self.old.past.first }
+    {
+        let Some(all) = self.gone.checked_add(self.kept.len() as u64) else {
+            return;
+        };
+        if self.taken.get() >= all {
+            self.past = self.past.with(self.kept.as_slice());
+            self.gone = all;
+            self.kept.clear();
+        }
+    }
+}
