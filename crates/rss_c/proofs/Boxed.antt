@@ -1,12 +1,12 @@
 -- A store that C keeps owns what a box of it owns, and none owns nothing.
 use mathlib.Core.Path.{refl}
-use mathlib.Core.List.{List, [], ◌∷◌, ◌++◌}
+use mathlib.Core.List.{List, [], ◌∷◌}
 use seplogic.Ra.Ura.{Ura}
 use mir.Syntax.{impl, tnil, dnil}
 use mir.Val.{Val, vstruct, of_list}
 use types.Logic.{Logic}
 use types.Kit.{Goal, Item, Step, step, ‵, ◌$◌, move, fjoin, fpack, feq_i}
-use denote.RattleType.{RattleType, Valss}
+use denote.RattleType.{Valss}
 use denote.Builtin.{RawPtr}
 use denote.RawPtr.{null_ptr, ptr_val}
 use denote.Signature.{Slot, plain}

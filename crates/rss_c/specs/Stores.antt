@@ -1,6 +1,6 @@
 -- How the calls of a store that is open end.
-use Rattle.std.specs.Prelude.{◌≡◌, ◌≢◌, ◌⊎◌, ◌+◌, ◌-◌, ◌^◌, ◌<◌, ◌≤◌, ◌/◌, ◌%◌, min, ℕ, List, [], length, Option, Some, None, Result, Ok, Err, true, false}
-use Rattle.core.specs.Simd.{first_chunks}
+use Rattle.std.specs.Prelude.{◌≡◌, ◌⊎◌, ◌+◌, ◌-◌, ◌^◌, ◌<◌, ◌≤◌, ◌/◌, ◌%◌, min, ℕ, List, [], length, Result, Ok, Err, true, false}
+use Rattle.std.specs.Simd.{first_chunks}
 use Rattle.rss_base.specs.DiskRule.{Pages, Told, page}
 use Rattle.rss_base.specs.Listings.{IsUnlisted}
 use Rattle.rss_base.specs.Sizes.{page_bytes}
@@ -18,8 +18,7 @@ use Rattle.rss_device.specs.declared.step_device.StepDevice.{StepDevice}
 use Rattle.rss_log.specs.Logs.{free_of}
 use Rattle.rss_model.specs.Calls.{calls_most}
 use Rattle.rss_model.specs.Script.{IsNameWord}
-use Rattle.rss_model.specs.Store.{OpensTo}
-use Rattle.rss_model.specs.Tables.{no_tables}
+use Rattle.rss_model.specs.Store.{no_tables, OpensTo}
 use Rattle.rss_session.specs.Sessions.{counts as counts_of}
 use Rattle.rss_session.specs.Weighing.{room_of}
 use Rattle.rss_store.specs.Formatted.{AreSizes, HoldsFormatted}
@@ -84,9 +83,10 @@ pub record IsMadeOf (slots log_pages : ℕ) (store : OpenStore) : Type 0 where
       OpensTo pages (record { slots = slots; log_pages = log_pages }) no_tables)
   pub over : IsOver device store
 
--- No store was made, with this fault. It tells sizes that no store has.
+-- No store was made, with this fault: that of sizes which no store has, or another where these are
+-- sizes of a store, or memory ran out first.
 pub record IsUnmade (slots log_pages : ℕ) (fault : OpenFault) : Type 0 where
-  pub wrong : (AreSizes slots log_pages → ⊥) → fault ≡ WrongSize
+  pub wrong : (AreSizes slots log_pages → ⊥) → (fault ≡ WrongSize) ⊎ (fault ≡ NoMemory)
   pub right : fault ≡ WrongSize → AreSizes slots log_pages → ⊥
 
 -- ---- a line
@@ -118,7 +118,7 @@ pub data IsLineEnd (old new : OpenStore) (line : List ℕ) (text : Stream) (resu
 pub record TakesStep (old new : OpenStore) (step : RssStep) : Type 0 where
   pub taken : Step
   pub there : IsStep (steps_of (device_in old)) old.next taken
-  pub as : HasStep taken step
+  pub given : HasStep taken step
   pub next : new.next ≡ old.next + 1
   pub engine : new.engine ≡ old.engine
   pub names : new.names ≡ old.names

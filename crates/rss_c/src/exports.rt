@@ -9,8 +9,9 @@ use crate::handle::RssStore;
 use crate::open_store::OpenStore;
 use crate::page::RssPage;
 use crate::step::RssStep;
-use crate::telling::{status_of, tell, write_line};
+use crate::telling::{status_of, tell};
 use crate::text::RssText;
+use rss_base::write_all;
 use rss_line::{MOST_EMPLOYEES, generate};
 use rss_top::Status;
 use std::alloc::Global;
@@ -28,12 +29,7 @@ fn number_of(end: Result<(), Ended>) -> u32
 /// Makes an empty store of so many slots and log pages, where none is open in the handle, and opens
 /// it. Its first steps make it in a file.
 #[unsafe(no_mangle)]
-pub extern "C" fn rss_format(
-    alloc: Global,
-    store: &mut RssStore,
-    slots: u32,
-    log_pages: u32,
-) -> u32
+pub extern "C" fn rss_format(alloc: Global, store: &mut RssStore, slots: u32, log_pages: u32) -> u32
     ensures { FormatsIn slots log_pages result (held store.old) (held store.new) }
 {
     if store.is_open() {
@@ -105,12 +101,7 @@ pub extern "C" fn rss_next_step(alloc: Global, store: &mut RssStore, step: &mut 
 
 /// Reads a page of the store, and answers whether there is one at this place.
 #[unsafe(no_mangle)]
-pub extern "C" fn rss_page(
-    alloc: Global,
-    store: &mut RssStore,
-    at: u64,
-    page: &mut RssPage,
-) -> bool
+pub extern "C" fn rss_page(alloc: Global, store: &mut RssStore, at: u64, page: &mut RssPage) -> bool
     ensures same { held store.new ≡ held store.old }
     ensures page { ReadsIn at page.new result (held store.old) }
 {
@@ -166,10 +157,14 @@ pub extern "C" fn rss_generated_line(
     if employees == 0 || employees > MOST_EMPLOYEES {
         return Ended::NoLine.number();
     }
-    match generate(alloc, number, employees, at) {
-        Ok(Some(line)) => number_of(write_line(&line, text)),
-        Ok(None) => Ended::NoLine.number(),
-        Err(_) => Ended::As(Status::NoMemory).number(),
+    let line = match generate(alloc, number, employees, at) {
+        Ok(Some(line)) => line,
+        Ok(None) => return Ended::NoLine.number(),
+        Err(_) => return Ended::As(Status::NoMemory).number(),
+    };
+    match write_all(text, line.as_slice()) {
+        Ok(()) => 0,
+        Err(_) => Ended::As(Status::WriteFault).number(),
     }
 }
 

@@ -3,8 +3,8 @@ ghost use Rattle.std.specs.Prelude.{◌≡◌, None, Some, IsSome, option_map, t
 ghost use Rattle.std.specs.Coded.{Coded-set};
 ghost use Rattle.rss_c.specs.Kept.{store_coded};
 
-use crate::open_store::OpenStore;
 use crate::kept::Kept;
+use crate::open_store::OpenStore;
 use std::alloc::Global;
 use std::mem::replace;
 

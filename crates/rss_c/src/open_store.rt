@@ -1,5 +1,6 @@
 // A store that is open, with the variables of its lines and the steps of its device.
-ghost use Rattle.std.specs.Prelude.{◌≡◌, true};
+ghost use Rattle.std.specs.Prelude.{◌≡◌, true, IfOk};
+ghost use Rattle.rss_device.specs.StepDevice.{IsFresh};
 ghost use Rattle.rss_rsi.specs.Parts.{view};
 
 use crate::counts::RssCounts;
@@ -30,7 +31,7 @@ pub struct OpenStore {
 }
 
 impl OpenStore {
-    ghost use Rattle.std.specs.Prelude.{◌≡◌, ◌≤◌, false, IfErr, IfOk, IsTrue};
+    ghost use Rattle.std.specs.Prelude.{◌≤◌, false, IfErr, IsTrue};
     ghost use Rattle.rss_device.specs.StepDevice.{view_of};
     ghost use Rattle.rss_store.specs.Opening.{IsUnopened};
     ghost use Rattle.rss_c.specs.Texts.{text_view, empty_text};
@@ -46,8 +47,12 @@ impl OpenStore {
         if !rest.is_empty() {
             return Err(OpenFault::NotAStore(Place::Size));
         }
-        let pages = Vec::from_slice(alloc, pages).map_err(|_| OpenFault::NoMemory)?;
-        let (device, taken) = device_of(alloc, pages).map_err(|_| OpenFault::NoMemory)?;
+        let Ok(pages) = Vec::from_slice(alloc, pages) else {
+            return Err(OpenFault::NoMemory);
+        };
+        let Ok((device, taken)) = device_of(alloc, pages) else {
+            return Err(OpenFault::NoMemory);
+        };
         OpenStore::over(alloc, device, taken)
     }
 
@@ -60,18 +65,15 @@ impl OpenStore {
         ensures made { IfOk result (λ store. IsMadeOf slots log_pages store.value) }
         ensures unmade { IfErr result (IsUnmade slots log_pages) }
     {
-        let (mut device, taken) =
-            device_of(alloc, Vec::new(alloc)).map_err(|_| OpenFault::NoMemory)?;
+        let Ok((mut device, taken)) = device_of(alloc, Vec::new(alloc)) else {
+            return Err(OpenFault::NoMemory);
+        };
         format(alloc, &mut device, slots, log_pages)?;
         OpenStore::over(alloc, device, taken)
     }
 
     /// Opens the store on a device, of whose steps none was taken.
-    fn over(
-        alloc: Global,
-        device: StepDevice,
-        taken: Taken,
-    ) -> Result<Box<OpenStore>, OpenFault>
+    fn over(alloc: Global, device: StepDevice, taken: Taken) -> Result<Box<OpenStore>, OpenFault>
         ensures opened { IfOk result (λ store. IsOver device store.value) }
         ensures refused { IfErr result (IsUnopened (view_of device)) }
     {
@@ -171,7 +173,10 @@ impl OpenStore {
         let Some(name) = read_name(name) else {
             return 0;
         };
-        self.engine.levels(&name).unwrap_or(0)
+        match self.engine.levels(&name) {
+            Some(levels) => levels,
+            None => 0,
+        }
     }
 
     /// What is counted of the store.

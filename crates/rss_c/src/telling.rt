@@ -1,11 +1,9 @@
 // The lines that are written to a text.
-ghost use Rattle.std.specs.Prelude.{◌≡◌, IfOk, OnOk};
-ghost use Rattle.rss_base.specs.Streams.{Takes};
+ghost use Rattle.std.specs.Prelude.{◌≡◌, IfOk};
 ghost use Rattle.rss_top.specs.Says.{Says};
 ghost use Rattle.rss_c.specs.Texts.{text_view};
 ghost use Rattle.rss_c.specs.Ends.{fault_status, line_of};
 
-use crate::ended::Ended;
 use crate::text::RssText;
 use rss_base::{OpenFault, write_all};
 use rss_line::{say_damaged, say_not_a_store};
@@ -41,16 +39,6 @@ pub(crate) fn tell(alloc: Global, status: Status, text: &mut RssText) -> Status
     match write_all(text, line.as_slice()) {
         Ok(()) => status,
         Err(_) => Status::WriteFault,
-    }
-}
-
-/// Writes a line, without its end.
-pub(crate) fn write_line(line: &[u8], text: &mut RssText) -> Result<(), Ended>
-    ensures { OnOk result (Takes (text_view text.old).bytes line.now (text_view text.new).bytes) }
-{
-    match write_all(text, line) {
-        Ok(()) => Ok(()),
-        Err(_) => Err(Ended::As(Status::WriteFault)),
     }
 }
 

@@ -9,4 +9,4 @@ pub returns-clause-counts : goal.returns-clause-counts
 returns-clause-counts c =
     let is : Some c.in-Some.open.value ≡ held c.args.store.now = search rules in
     let counted : HasCounts c.in-Some.open.value c.counts.result = subst (λ (store : OpenStore). HasCounts store c.counts.result) c.deref.ensures c.counts.ensures in
-    subst (λ (store : Option OpenStore). CountsIn c.counts.result true store) is (refl, counted)
+    subst (λ (store : Option OpenStore). CountsIn c.args.counts.now c.counts.result true store) is (refl, counted)

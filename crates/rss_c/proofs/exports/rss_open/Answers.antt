@@ -7,8 +7,8 @@ returns-then-is_open c = already (search rules) (search rules) c.clear.ensures c
 
 pub returns-in-Ok : goal.returns-in-Ok
 returns-in-Ok c =
-    opened c.in-Ok.opened.value (search rules) c.put.ensures c.in-Ok.ensures.opened (search rules) (search rules)
+    opened c.in-Ok.opened.value (search rules) c.put.ensures c.in-Ok.ensures.opened c.clear.ensures (search rules)
 
 pub returns-in-Err : goal.returns-in-Err
 returns-in-Err c =
-    refused c.in-Err.status (search rules) (search rules) c.in-Err.ensures.unopened c.number-in-Err.ensures
+    refused c.in-Err.fault c.tell.result (search rules) (search rules) c.in-Err.ensures.refused (search rules) (search rules)

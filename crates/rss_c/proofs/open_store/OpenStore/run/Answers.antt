@@ -1,7 +1,10 @@
 use Rattle.std.proofs.Common.{refl}
 use Rattle.rss_c.specs.Texts.{text_view}
-use Rattle.rss_c.specs.Stores.{failed}
+use Rattle.rss_c.specs.Stores.{ran, failed}
 use Rattle.rss_c.proofs.open_store.OpenStore.run.Goals as goal
+
+pub returns-in-Ok : goal.returns-in-Ok
+returns-in-Ok c = ran refl refl (rw c.requires at c.in-Ok.ensures)
 
 pub returns : goal.returns
 returns c =
