@@ -1,5 +1,5 @@
 -- What C's calls do to a handle.
-use Rattle.std.specs.Prelude.{◌≡◌, ◌⊎◌, ℕ, ◌≤◌, Bool, true, false, List, slice_get, Option, None, Some, IsSome, Result, Ok, Err}
+use Rattle.std.specs.Prelude.{◌≡◌, ◌⊎◌, ℕ, ◌≤◌, Bool, true, false, List, slice_get, Option, None, Some, IfSome, IsSome, Result, Ok, Err}
 use Rattle.rss_base.specs.Streams.{Stream}
 use Rattle.rss_base.specs.declared.fault.OpenFault.{OpenFault}
 use Rattle.rss_device.specs.StepDevice.{view_of}
@@ -10,7 +10,7 @@ use Rattle.rss_top.specs.declared.status.Status.{Status}
 use Rattle.rss_top.specs.declared.status.Status.TheVariants.{Ok as Made, WriteFault, NoMemory}
 use Rattle.rss_c.specs.Ends.{end_number, fault_status, line_of}
 use Rattle.rss_c.specs.Texts.{empty_text}
-use Rattle.rss_c.specs.Stores.{device_in, AreRefused, HasCounts, HasPage, IsLevelsOf, IsLineEnd, IsMadeOf, IsOpenedOn, IsUnmade, TakesStep}
+use Rattle.rss_c.specs.Stores.{device_in, AreRefused, HasCounts, HasNoStep, HasPage, IsLevelsOf, IsLineEnd, IsMadeOf, IsOpenedOn, IsUnmade, TakesStep}
 use Rattle.rss_c.specs.declared.counts.RssCounts.{RssCounts}
 use Rattle.rss_c.specs.declared.ended.Ended.{Ended}
 use Rattle.rss_c.specs.declared.ended.Ended.TheVariants.{NotOpen, AlreadyOpen, NoLine}
@@ -69,7 +69,8 @@ pub data TakesIn (step : RssStep) (found : Bool) (before after : Option OpenStor
   taken : (old new : OpenStore) → before ≡ Some old → after ≡ Some new → TakesStep old new step
       → found ≡ true
       → TakesIn step found before after
-  none : after ≡ before → found ≡ false → TakesIn step found before after
+  none : after ≡ before → IfSome before HasNoStep → found ≡ false
+      → TakesIn step found before after
 
 -- A page is read where a store is open that has it.
 abbrev pub ReadsIn : ℕ → RssPage → Bool → Option OpenStore → Type 0

@@ -11,7 +11,7 @@ use Rattle.rss_base.specs.declared.name.Name.{Name}
 use Rattle.rss_base.specs.declared.place.Place.TheVariants.{Size}
 use Rattle.rss_base.specs.declared.refusal.Kind.TheVariants.{Image}
 use Rattle.rss_buffer.specs.Devices.{device_of}
-use Rattle.rss_device.specs.StepDevice.{view_of, steps_of, IsFresh}
+use Rattle.rss_device.specs.StepDevice.{view_of, steps_of, gone_of, IsFresh}
 use Rattle.rss_device.specs.Steps.{IsStep}
 use Rattle.rss_device.specs.declared.step.Step.{Step}
 use Rattle.rss_device.specs.declared.step_device.StepDevice.{StepDevice}
@@ -123,6 +123,12 @@ pub record TakesStep (old new : OpenStore) (step : RssStep) : Type 0 where
   pub engine : new.engine ≡ old.engine
   pub names : new.names ≡ old.names
   pub up : new.up ≡ old.up
+
+-- There is no next step: all were taken, or it isn't kept any more, or its number is too large.
+abbrev pub HasNoStep : OpenStore → Type 0
+HasNoStep store =
+    (length (steps_of (device_in store)) ≤ store.next)
+    ⊎ ((store.next < gone_of (device_in store)) ⊎ (store.next ≡ 2 ^ 64 - 1))
 
 -- ---- what there is of it
 

@@ -36,7 +36,7 @@ impl OpenStore {
     ghost use Rattle.rss_store.specs.Opening.{IsUnopened};
     ghost use Rattle.rss_c.specs.Texts.{text_view, empty_text};
     ghost use Rattle.rss_c.specs.Stores.{device_in, AreRefused, IsMadeOf, IsOpenedOn, IsOver, IsUnmade};
-    ghost use Rattle.rss_c.specs.Stores.{HasCounts, HasPage, IsLevelsOf, IsLineEnd, TakesStep};
+    ghost use Rattle.rss_c.specs.Stores.{HasCounts, HasNoStep, HasPage, IsLevelsOf, IsLineEnd, TakesStep};
 
     /// Opens the store of these bytes.
     pub(crate) fn open(alloc: Global, bytes: &[u8]) -> Result<Box<OpenStore>, OpenFault>
@@ -140,7 +140,8 @@ impl OpenStore {
     /// Takes the next step of its device, if there is one.
     pub(crate) fn take_step(&mut self, step: &mut RssStep) -> bool
         ensures taken { IsTrue result → TakesStep self.old self.new step.new }
-        ensures none { result ≡ false → self.new ≡ self.old }
+        ensures same { result ≡ false → self.new ≡ self.old }
+        ensures none { result ≡ false → HasNoStep self.old }
     {
         let Some(next) = self.next.checked_add(1) else {
             return false;
