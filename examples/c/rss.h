@@ -60,7 +60,6 @@ typedef struct {
     uint64_t log_free; /* how many bytes the log has room for */
     uint32_t calls;    /* how many calls were made since the opening */
     uint32_t slots;    /* how many slots it has for pages */
-    bool up;           /* it answers lines */
 } rss_counts;
 
 /* Makes an empty store and opens it. Its first steps make it in a file, whatever that held. */
@@ -71,6 +70,9 @@ uint32_t rss_open(rss_store *store, const unsigned char *bytes, size_t length, r
 
 /* Runs a line of a script, without its end. The text is its reply, which may be empty. */
 uint32_t rss_run_line(rss_store *store, const char *line, size_t length, rss_text *text);
+
+/* Whether a store is open that answers lines. */
+bool rss_is_up(rss_store *store);
 
 /* Takes the next step that the file is to do, and answers whether there was one. */
 bool rss_next_step(rss_store *store, rss_step *step);
@@ -84,8 +86,10 @@ bool rss_count(rss_store *store, rss_counts *counts);
 /* How many levels of nodes the image of this name has; 0 if none is defined or no store is open. */
 uint8_t rss_levels(rss_store *store, const char *name, size_t length);
 
-/* Writes line `at`, counted from 0, of the script that `rss gen NUMBER EMPLOYEES` writes, without its
-   end. */
+/* How many lines the script has that `rss gen NUMBER EMPLOYEES` writes; 0 if there is none. */
+uint64_t rss_generated_lines(uint32_t employees);
+
+/* Writes its line `at`, counted from 0, without its end. */
 uint32_t rss_generated_line(uint64_t number, uint32_t employees, uint64_t at, rss_text *text);
 
 /* Closes the store that is open, if one is. What no `end` has committed is dropped. */

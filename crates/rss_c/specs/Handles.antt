@@ -1,5 +1,5 @@
 -- What C's calls do to a handle.
-use Rattle.std.specs.Prelude.{◌≡◌, ◌⊎◌, ℕ, ◌≤◌, Bool, true, false, List, slice_get, Option, None, Some, IfSome, IsSome, Result, Ok, Err}
+use Rattle.std.specs.Prelude.{◌≡◌, ◌⊎◌, ℕ, ◌≤◌, Bool, true, false, List, length, slice_get, Option, None, Some, IfSome, IsSome, Result, Ok, Err}
 use Rattle.rss_base.specs.Streams.{Stream}
 use Rattle.rss_base.specs.declared.fault.OpenFault.{OpenFault}
 use Rattle.rss_device.specs.StepDevice.{view_of}
@@ -64,6 +64,11 @@ pub data RunsIn (line : List ℕ) (text : Stream) (number : ℕ) (before after :
   none : before ≡ None → after ≡ None → text ≡ empty_text → number ≡ end_number NotOpen
       → RunsIn line text number before after
 
+-- a store is open that answers lines
+abbrev pub is_up : Option OpenStore → Bool
+is_up None = false
+is_up (Some store) = store.up
+
 -- A step was taken of the store that is open; or there was none, or none is open.
 pub data TakesIn (step : RssStep) (found : Bool) (before after : Option OpenStore) : Type 0 where
   taken : (old new : OpenStore) → before ≡ Some old → after ≡ Some new → TakesStep old new step
@@ -88,13 +93,21 @@ abbrev pub LevelsIn : List ℕ → ℕ → Option OpenStore → Type 0
 LevelsIn name levels None = levels ≡ 0
 LevelsIn name levels (Some store) = IsLevelsOf store name levels
 
+-- a script is generated with so many employees
+abbrev pub AreEmployees : ℕ → Type 0
+AreEmployees count = (1 ≤ count) × (count ≤ most_employees)
+
+-- a script with so many employees has so many lines, or there is none
+pub record CountsGenerated (employees lines : ℕ) : Type 0 where
+  pub some : AreEmployees employees → (number : ℕ) → lines ≡ length (generated number employees)
+  pub none : (AreEmployees employees → ⊥) → lines ≡ 0
+
 -- A line of a generated script was written; or there is none; or the text or memory had no room.
 pub data GeneratesAs (number employees at : ℕ) (text : Stream) (end : ℕ) : Type 0 where
   written : (line : List ℕ) → slice_get (generated number employees) at ≡ Some line
       → text.bytes ≡ Some line → end ≡ exit_status Made
       → GeneratesAs number employees at text end
-  none : (1 ≤ employees → employees ≤ most_employees
-      → slice_get (generated number employees) at ≡ None)
+  none : (AreEmployees employees → slice_get (generated number employees) at ≡ None)
       → text ≡ empty_text → end ≡ end_number NoLine
       → GeneratesAs number employees at text end
   failed : (end ≡ exit_status WriteFault) ⊎ (end ≡ exit_status NoMemory)

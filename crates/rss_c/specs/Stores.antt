@@ -139,7 +139,6 @@ pub record HasPage (store : OpenStore) (at : ℕ) (found : RssPage) : Type 0 whe
 
 -- what is counted of a store, by the clauses of its engine
 pub record HasCounts (store : OpenStore) (counts : RssCounts) : Type 0 where
-  pub up : counts.up ≡ store.up
   pub pages : counts.pages ≡ (view_of (device_in store)).size
   pub calls : counts.calls ≡ (view store.engine).calls
   pub slots : counts.slots ≡ (view store.engine).slots

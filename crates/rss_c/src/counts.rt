@@ -14,6 +14,4 @@ pub struct RssCounts {
     pub calls: u32,
     /// How many slots its device has for pages.
     pub slots: u32,
-    /// It answers lines.
-    pub up: bool,
 }

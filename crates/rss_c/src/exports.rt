@@ -1,7 +1,7 @@
 // The calls of C. A slice is a pointer and a length there, and a `Global` no parameter.
-ghost use Rattle.std.specs.Prelude.{◌≡◌, None};
+ghost use Rattle.std.specs.Prelude.{◌≡◌, ◌↔◌, None, IsTrue};
 ghost use Rattle.rss_c.specs.Texts.{text_view};
-ghost use Rattle.rss_c.specs.Handles.{held, number_of, CountsIn, FormatsIn, GeneratesAs, LevelsIn, OpensIn, ReadsIn, RunsIn, TakesIn};
+ghost use Rattle.rss_c.specs.Handles.{held, is_up, number_of, AreEmployees, CountsGenerated, CountsIn, FormatsIn, GeneratesAs, LevelsIn, OpensIn, ReadsIn, RunsIn, TakesIn};
 
 use crate::counts::RssCounts;
 use crate::ended::Ended;
@@ -12,7 +12,7 @@ use crate::step::RssStep;
 use crate::telling::{status_of, tell};
 use crate::text::RssText;
 use rss_base::write_all;
-use rss_line::{MOST_EMPLOYEES, generate};
+use rss_line::{MOST_EMPLOYEES, count_generated, generate};
 use rss_top::Status;
 use std::alloc::Global;
 
@@ -24,6 +24,13 @@ fn number_of(end: Result<(), Ended>) -> u32
         Ok(()) => 0,
         Err(end) => end.number(),
     }
+}
+
+/// Whether a script is generated with so many employees.
+fn are_employees(count: u32) -> bool
+    ensures { IsTrue result ↔ AreEmployees count }
+{
+    1 <= count && count <= MOST_EMPLOYEES
 }
 
 /// Makes an empty store of so many slots and log pages, where none is open in the handle, and opens
@@ -86,6 +93,20 @@ pub extern "C" fn rss_run_line(
     number_of(end)
 }
 
+/// Whether a store is open that answers lines.
+#[unsafe(no_mangle)]
+pub extern "C" fn rss_is_up(alloc: Global, store: &mut RssStore) -> bool
+    ensures same { held store.new ≡ held store.old }
+    ensures up { result ≡ is_up (held store.old) }
+{
+    let Some(open) = store.take(alloc) else {
+        return false;
+    };
+    let up = open.is_up();
+    store.put(open);
+    up
+}
+
 /// Takes the next step that the store's file is to do, and answers whether there is one.
 #[unsafe(no_mangle)]
 pub extern "C" fn rss_next_step(alloc: Global, store: &mut RssStore, step: &mut RssStep) -> bool
@@ -141,6 +162,17 @@ pub extern "C" fn rss_levels(alloc: Global, store: &mut RssStore, name: &[u8]) -
     levels
 }
 
+/// How many lines the script has that is generated with so many employees; 0 if none is.
+#[unsafe(no_mangle)]
+pub extern "C" fn rss_generated_lines(employees: u32) -> u64
+    ensures { CountsGenerated employees result }
+{
+    if !are_employees(employees) {
+        return 0;
+    }
+    count_generated(employees)
+}
+
 /// Writes line `at` of the script that is generated from a number, with so many employees, if there
 /// is one. The lines are counted from 0.
 #[unsafe(no_mangle)]
@@ -154,7 +186,7 @@ pub extern "C" fn rss_generated_line(
     ensures { GeneratesAs number employees at (text_view text.new) result }
 {
     text.clear();
-    if employees == 0 || employees > MOST_EMPLOYEES {
+    if !are_employees(employees) {
         return Ended::NoLine.number();
     }
     let line = match generate(alloc, number, employees, at) {

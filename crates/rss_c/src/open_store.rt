@@ -130,6 +130,12 @@ impl OpenStore {
         }
     }
 
+    pub(crate) fn is_up(&self) -> bool
+        ensures { result ≡ self.now.up }
+    {
+        self.up
+    }
+
     /// The device under it.
     fn device(&self) -> &StepDevice
         ensures { result.now ≡ device_in self.now }
@@ -185,7 +191,6 @@ impl OpenStore {
         ensures { HasCounts self.now result }
     {
         RssCounts {
-            up: self.up,
             pages: self.device().pages().len() as u64,
             calls: self.engine.calls(),
             slots: self.engine.slots(),
