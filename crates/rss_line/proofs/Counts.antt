@@ -1,9 +1,9 @@
 -- How many lines a generated script has of its employees.
-use Rattle.std.proofs.Common.{◌≡◌, ℕ, zero, suc, ◌+◌, ◌-◌, ◌*◌, ◌/◌, ◌%◌, ◌<◌, ◌≤◌, Bool, true, false, List, [], ◌∷◌, ◌++◌, length, refl, ap, ◌∙◌, sym, arith, length-append, add-one}
+use Rattle.std.proofs.Common.{◌≡◌, ℕ, zero, suc, ◌+◌, ◌*◌, ◌/◌, ◌%◌, ◌<◌, ◌≤◌, Bool, true, false, ◌++◌, length, refl, ap, ◌∙◌, arith, length-append}
 use Rattle.std.proofs.lemmas.Bool.Decides.{nat_tests}
 use Rattle.std.specs.Prelude.{◌==◌, ◌||◌, if◌then◌else◌}
 use Rattle.std.specs.Int.{div_ceil}
-use Rattle.rss_model.specs.Generator.{when, begin_lines, update_lines, fetch_lines, end_lines, employee_lines, first_employees, state_before}
+use Rattle.rss_model.specs.Generator.{begin_lines, update_lines, fetch_lines, end_lines, employee_lines, first_employees, state_before}
 use Rattle.rss_line.proofs.Parts.{length-when}
 
 -- one more where it is so

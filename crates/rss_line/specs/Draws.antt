@@ -1,5 +1,5 @@
 -- How the state of the draws is moved on.
-use Rattle.std.specs.Prelude.{ℕ, ◌+◌, ◌*◌, ◌/◌, ◌%◌, ◌^◌}
+use Rattle.std.specs.Prelude.{ℕ, ◌+◌, ◌*◌, ◌%◌, ◌^◌}
 
 -- by a multiplication and an addition
 abbrev pub moved : ℕ → ℕ → ℕ → ℕ

@@ -14,7 +14,7 @@ use Rattle.rss_link.specs.declared.blocks.Pointer.{Pointer}
 use Rattle.rss_link.specs.declared.blocks.Pointer.TheVariants.{Next, Previous}
 use Rattle.rss_link.specs.Blocks.{HasStanding, HasEnds, standing_bytes, child_size, pointer_in, end_in}
 use Rattle.rss_link.specs.Chains.{Linkage}
-use Rattle.rss_link.specs.Links.{Says, BodySaysEnds, AreApart}
+use Rattle.rss_link.specs.Links.{Says, AreApart}
 use Rattle.rss_link.specs.Calls.{seen_with}
 use Rattle.rss_link.specs.Edits.{bytes_of, PutsBytes, SaysSome, SaysSomeEnds, with_pointer, turn, Restates, Turns}
 use Rattle.rss_link.proofs.BlockBytes.{length-standing_bytes}

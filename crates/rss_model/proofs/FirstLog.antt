@@ -17,7 +17,6 @@ use Rattle.rss_model.specs.Tables.{Contents, Tables}
 use Rattle.rss_model.specs.Fits.{Fits}
 use Rattle.rss_model.specs.Records.{LogEntry, Checkpoint}
 use Rattle.rss_model.specs.Recovers.{Recovers}
-use Rattle.rss_model.specs.Records.{recovered}
 use Rattle.rss_model.specs.Meanings.{Logged, as_bytes, as_entries, Says, says_change, says_restore, says_end, says_abort, says_checkpoint, MeansIt, IsLogged, is_listed}
 use Rattle.rss_model.specs.Store.{HasFirstLog, first_record, first_stored, HasLog}
 use Rattle.rss_model.proofs.LogPlaced.{told_at}

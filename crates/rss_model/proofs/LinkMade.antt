@@ -19,7 +19,7 @@ use Rattle.rss_tuple.specs.Directory.{bodies_of}
 use Rattle.rss_model.specs.Items.{Content, name_cmp}
 use Rattle.rss_model.specs.Tables.{LinkDef, Contents, Tables, content, tuple_count}
 use Rattle.rss_model.specs.Chains.{chain, tuples_in, is_there, LinksFit}
-use Rattle.rss_model.specs.Defining.{defined, with_definitions, relations_of_link, holds_tuples}
+use Rattle.rss_model.specs.Defining.{with_definitions, relations_of_link, holds_tuples}
 use Rattle.rss_model.specs.Machine.{State}
 use Rattle.rss_model.specs.Store.{AreEnds, DefinesPaths, IsChainItem, IsTupleItem, SpellsContents, SpellsTables, link_definition, listed_block, prefix_of}
 use Rattle.rss_model.proofs.Counts.{none_counted}

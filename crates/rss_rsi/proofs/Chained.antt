@@ -1,13 +1,12 @@
 -- Chains as the machine has them, by the link of a number, and the records that tell of their changes.
 use Rattle.std.proofs.Common.{◌≡◌, inl, inr, ℕ, ◌^◌, ◌<◌, true, false, List, [], ◌∷◌, refl, sym, ◌∙◌, ap, subst}
-use Rattle.std.specs.Prelude.{Bool, ◌||◌, ◌&&◌, not, Option, Some, None, is_some, option_map, option_and_then, unwrap_or, IfSome}
+use Rattle.std.specs.Prelude.{Bool, ◌&&◌, not, Option, Some, None, is_some, option_map, option_and_then, unwrap_or, IfSome}
 use Rattle.std.specs.FinMap as map
 use Rattle.std.proofs.lemmas.Bool.{true≢false}
 use Rattle.std.proofs.lemmas.Option.{none-some, same_Some}
 use Rattle.rss_base.specs.Listings.{Listing, ListingFits, IsNumberOf, LinkFits, link_at, relation_at}
 use Rattle.rss_base.specs.LogRecords.{IsChangeBounded, DoesChangeFit, HasSlot}
 use Rattle.rss_base.specs.Prefixes.{is_tid, last_of}
-use Rattle.rss_base.specs.declared.change.Change as told
 use Rattle.rss_base.specs.declared.change.Change.TheVariants.{Connect, Disconnect}
 use Rattle.rss_base.specs.declared.item.Item.{Item}
 use Rattle.rss_base.specs.declared.item.Item.TheVariants.{Chain as ChainItem}
@@ -20,12 +19,12 @@ use Rattle.rss_base.specs.declared.spot.Spot.TheVariants.{First, Last, After}
 use Rattle.rss_base.specs.declared.tid.Tid.{Tid}
 use Rattle.rss_model.specs.Chains.{chain, chain_content, chain_with, has_spot, is_there, left_of, stands_in, tuples_in, with_behind, without, HasParent}
 use Rattle.rss_model.specs.Fits.{Fits}
-use Rattle.rss_model.specs.Items.{Content, parent_of}
+use Rattle.rss_model.specs.Items.{Content}
 use Rattle.rss_model.specs.LogLaws.{IsToldBy}
 use Rattle.rss_model.specs.Machine.{State, now}
 use Rattle.rss_model.specs.Meanings.{name_at, nameless}
 use Rattle.rss_model.specs.Refusals.{connection, disconnection}
-use Rattle.rss_model.specs.Store.{Defines, IsListedLink, link_definition, relation_name}
+use Rattle.rss_model.specs.Store.{Defines, link_definition, relation_name}
 use Rattle.rss_model.specs.Tables.{Contents, Definitions, LinkDef, Tables, content}
 use Rattle.rss_model.proofs.ChainKeeping.{chain_back, chain_found, in_chain}
 use Rattle.rss_model.proofs.ChangeKeeping.{in_no_chain}

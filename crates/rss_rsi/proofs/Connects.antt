@@ -1,13 +1,12 @@
 -- The calls on links that change a chain, read where a tuple stands, or open a scan: by what was found, and what their step comes to.
-use Rattle.std.proofs.Common.{◌≡◌, ℕ, ◌+◌, ◌^◌, ◌<◌, ◌≤◌, true, false, List, [], ◌∷◌, refl, sym, ◌∙◌, ap, subst, arith}
+use Rattle.std.proofs.Common.{◌≡◌, ℕ, ◌^◌, ◌<◌, true, false, List, [], ◌∷◌, refl, sym, ◌∙◌, ap, subst, arith}
 use Rattle.std.specs.Prelude.{All, Option, Some, None, Ok, is_some, option_map, option_and_then}
-use Rattle.std.specs.FinMap as map
 use Rattle.std.proofs.lemmas.Option.{same_Some}
 use Rattle.rss_base.specs.DiskRule.{IsTold}
 use Rattle.rss_base.specs.Listings.{IsNumberOf, link_at}
 use Rattle.rss_base.specs.LogRecords.{IsChangeBounded, DoesChangeFit}
-use Rattle.rss_base.specs.declared.answer.Reply.TheVariants.{Ok as Done, Tid as Identifier, Nothing, Number}
-use Rattle.rss_base.specs.declared.call.Call.TheVariants.{Connect, Disconnect, Parent, OpenLink}
+use Rattle.rss_base.specs.declared.answer.Reply.TheVariants.{Ok as Done}
+use Rattle.rss_base.specs.declared.call.Call.TheVariants.{Connect, Disconnect}
 use Rattle.rss_base.specs.declared.change.Change.TheVariants.{Connect as ConnectRecord, Disconnect as DisconnectRecord}
 use Rattle.rss_base.specs.declared.item.Item.{Item}
 use Rattle.rss_base.specs.declared.item.Item.TheVariants.{Chain as ChainItem}
@@ -27,12 +26,12 @@ use Rattle.rss_model.specs.LogLaws.{IsToldBy}
 use Rattle.rss_model.specs.Locks.{Locks, granted}
 use Rattle.rss_model.specs.Machine.{State, now}
 use Rattle.rss_model.specs.Needs.{needs}
-use Rattle.rss_model.specs.Refusals.{connection, disconnection, is_in_chain, link_of, unless_child, unless_spot}
+use Rattle.rss_model.specs.Refusals.{connection, disconnection, is_in_chain, unless_child, unless_spot}
 use Rattle.rss_model.specs.Ruled.{ruled}
 use Rattle.rss_model.specs.Rules.{if_no_room}
 use Rattle.rss_model.specs.Steps.{Step, first_of, if_full, locked, refusal, unless_live}
 use Rattle.rss_model.specs.Steps.StepBy.{connects, disconnects}
-use Rattle.rss_model.specs.Tables.{LinkDef, content}
+use Rattle.rss_model.specs.Tables.{LinkDef}
 use Rattle.rss_model.proofs.ChangeKeeping.{in_no_chain}
 use Rattle.rss_model.proofs.StepKeeping.{kept_fit}
 use Rattle.rss_model.proofs.Testing.{all_none, holds, holds_not}

@@ -1,75 +1,41 @@
 -- The calls on links that change nothing: what the step of each comes to, and how a scan goes along a chain.
-use Rattle.std.proofs.Common.{◌≡◌, ℕ, ◌+◌, ◌≤◌, ◌^◌, ◌<◌, true, false, List, [], ◌∷◌, refl, sym, ◌∙◌, ap, subst, arith}
-use Rattle.std.specs.Prelude.{Option, Some, None, Result, Ok, Err, IsErrAnd, IfErr, IfSome, is_some, option_map}
-use Rattle.std.specs.FinMap as map
-use Rattle.std.proofs.lemmas.Option.{none-some, same_Some}
+use Rattle.std.proofs.Common.{◌≡◌, ℕ, ◌+◌, ◌≤◌, List, [], refl, sym, ◌∙◌, ap, subst, arith}
+use Rattle.std.specs.Prelude.{Option, Some, None, Result, Ok, Err, IsErrAnd, IfErr, IfSome, option_map}
+use Rattle.std.proofs.lemmas.Option.{same_Some}
 use Rattle.rss_base.specs.DiskRule.{IsTold}
-use Rattle.rss_base.specs.Listings.{IsNumberOf, link_at}
 use Rattle.rss_base.specs.declared.answer.CallError.{CallError}
 use Rattle.rss_base.specs.declared.answer.CallError.TheVariants.{Refused, Damaged, Device, NoMemory, Down}
 use Rattle.rss_base.specs.declared.answer.Reply.{Reply}
-use Rattle.rss_base.specs.declared.answer.Reply.TheVariants.{Tid as Identifier, Nothing, Number}
 use Rattle.rss_base.specs.declared.call.Call.{Call}
-use Rattle.rss_base.specs.declared.call.Call.TheVariants.{Parent, OpenLink, Next}
-use Rattle.rss_base.specs.declared.item.Item.{Item}
-use Rattle.rss_base.specs.declared.item.Item.TheVariants.{Chain as ChainItem}
-use Rattle.rss_base.specs.declared.link.LinkEntry.{LinkEntry}
 use Rattle.rss_base.specs.declared.name.Name.{Name}
-use Rattle.rss_base.specs.declared.need.Need.{Need}
-use Rattle.rss_base.specs.declared.refusal.Kind.TheVariants.{Link as LinkKind}
-use Rattle.rss_base.specs.declared.refusal.LimitKind.TheVariants.{Scans as ScanLimit}
 use Rattle.rss_base.specs.declared.refusal.Refusal.{Refusal}
-use Rattle.rss_base.specs.declared.refusal.Refusal.TheVariants.{Limit}
 use Rattle.rss_base.specs.declared.tid.Tid.{Tid}
 use Rattle.rss_base.specs.declared.value.Value.{Value}
-use Rattle.rss_lock.specs.Locks.{LocksView}
-use Rattle.rss_members.specs.Calls.{HasForm, above_in}
 use Rattle.rss_model.specs.Calls.{EngineView, IsCallOf}
-use Rattle.rss_model.specs.Chains.{HasParent, chain_with}
 use Rattle.rss_model.specs.Images.{Entry, entry}
-use Rattle.rss_model.specs.Items.{parent_of}
-use Rattle.rss_model.specs.Locks.{Locks, granted}
+use Rattle.rss_model.specs.Locks.{Locks}
 use Rattle.rss_model.specs.Machine.{State, now}
-use Rattle.rss_model.specs.Needs.{needs}
-use Rattle.rss_model.specs.Refusals.{if_scans_used_up, unless_in_chain}
-use Rattle.rss_model.specs.ReplyText.{IsShort}
-use Rattle.rss_model.specs.Scans.{RelationPath, ImagePath, LinkPath, scans_most, new_scan, next_along, next_of_scan, path_relation}
+use Rattle.rss_model.specs.Refusals.{unless_in_chain}
+use Rattle.rss_model.specs.Scans.{RelationPath, ImagePath, LinkPath, next_along, next_of_scan, path_relation}
 use Rattle.rss_model.specs.Scans.{Path as MachinePath, Scan as MachineScan}
-use Rattle.rss_model.specs.Steps.{Step, first_of, keeps_locks, locked, locked_by, refusal, with_scan}
-use Rattle.rss_model.specs.Steps.StepBy.{finds, finds_none, opens}
-use Rattle.rss_model.specs.Tables.{Contents, Definitions}
-use Rattle.rss_model.proofs.ChainKeeping.{chain_found}
-use Rattle.rss_model.proofs.Endings.{comes_to}
-use Rattle.rss_model.proofs.StepKeeping.{kept_fit}
-use Rattle.rss_model.proofs.Tests.{goes_on}
-use Rattle.rss_scan.specs.Scans.{IsLeastFree, begun, cursor_of}
+use Rattle.rss_model.specs.Tables.{Definitions}
+use Rattle.rss_scan.specs.Scans.{cursor_of}
 use Rattle.rss_scan.specs.declared.cursor.Cursor.{Cursor}
 use Rattle.rss_scan.specs.declared.cursor.Path.{Path}
 use Rattle.rss_scan.specs.declared.cursor.Path.TheVariants.{Relation, Image, Link}
-use Rattle.rss_session.specs.Admissions.{Refuses, Says, link_admission}
-use Rattle.rss_session.specs.Linking.{SaysOfLink}
-use Rattle.rss_session.specs.Looks.{LooksOn}
-use Rattle.rss_session.specs.Sessions.{SessionView, IsReady}
-use Rattle.rss_session.specs.Shown.{Shows}
+use Rattle.rss_session.specs.Admissions.{Refuses}
+use Rattle.rss_session.specs.Sessions.{IsReady}
 use Rattle.rss_session.proofs.Behind.{looks_itself}
-use Rattle.rss_rsi.specs.Imaging.{Searches}
-use Rattle.rss_rsi.specs.Linking.{SaysFound, TestEnds, above_test, below_test, kept_by}
-use Rattle.rss_rsi.specs.Locking.{IsClaimed, Lists}
+use Rattle.rss_rsi.specs.Linking.{SaysFound, TestEnds, kept_by}
 use Rattle.rss_rsi.specs.Looking.{EndsEach}
 use Rattle.rss_rsi.specs.Placing.{MayCost}
 use Rattle.rss_rsi.specs.Scanning.{FindsMember, FindsMemberRow, FindsNext, FindsNextRow, IsNextOf, IsScanIn, lost_test}
-use Rattle.rss_rsi.specs.Views.{RssParts, AreLong, AreScans, HasChain, HasKeys, IsIn, IsReady as IsEngineReady, engine_view, pair_spelled, spelling}
-use Rattle.rss_rsi.proofs.Chained.{parent_in}
-use Rattle.rss_rsi.proofs.Claims.{free_as, grants_as, locked_as}
+use Rattle.rss_rsi.specs.Views.{RssParts, AreLong, HasChain, HasKeys, IsIn, IsReady as IsEngineReady, engine_view, pair_spelled, spelling}
 use Rattle.rss_rsi.proofs.LinkEnds.{tested_fails}
-use Rattle.rss_rsi.proofs.LinkNeeds.{link_in}
-use Rattle.rss_rsi.proofs.LinkTests.{IsLinked, linked_passes, linked_unfit, open_link_linked, open_link_tests, parent_linked}
-use Rattle.rss_rsi.proofs.Looks.{goes_costly}
-use Rattle.rss_rsi.proofs.ScanCalls.{next_comes, next_may, number_placed}
-use Rattle.rss_rsi.proofs.Scans.{cursor_long, has_scan, keys_in, scans_full, scans_left, spelled_in, unused, last_of}
-use Rattle.rss_rsi.proofs.Spelled.{added_scans, still_scans}
-use Rattle.rss_rsi.proofs.TransactionSteps.{number_line}
-use Rattle.rss_rsi.proofs.Ways.{answers, leads_by, left_same, refused_alike, refused_early, shows_locked, shows_scanned}
+use Rattle.rss_rsi.proofs.LinkTests.{IsLinked, linked_unfit}
+use Rattle.rss_rsi.proofs.ScanCalls.{next_comes, next_may}
+use Rattle.rss_rsi.proofs.Scans.{cursor_long, has_scan, keys_in, spelled_in, last_of}
+use Rattle.rss_rsi.proofs.Ways.{refused_early}
 
 -- ---- refusals at once
 

@@ -9,7 +9,6 @@ use Rattle.rss_base.specs.LogRecords.{HasSlot}
 use Rattle.rss_base.specs.Steps.{PagesView}
 use Rattle.rss_base.specs.declared.answer.CallError.{CallError}
 use Rattle.rss_base.specs.declared.answer.CallError.TheVariants.{Refused, Damaged, Device, NoMemory, Down}
-use Rattle.rss_base.specs.declared.answer.Reply.{Reply}
 use Rattle.rss_base.specs.declared.call.Call.{Call}
 use Rattle.rss_base.specs.declared.fault.PageFault.{PageFault}
 use Rattle.rss_base.specs.declared.fault.PageFault.TheVariants.{Device as PageDevice, Damaged as PageDamaged, NoMemory as PageNoMemory}
@@ -26,15 +25,14 @@ use Rattle.rss_model.specs.Calls.{GoesOn, IsCallOf}
 use Rattle.rss_model.specs.Costs.{RisesAtMost}
 use Rattle.rss_model.specs.Items.{Content}
 use Rattle.rss_model.specs.Kept.{Kept}
-use Rattle.rss_model.specs.Locks.{first_bar, granted}
 use Rattle.rss_model.specs.Machine.{State, now}
 use Rattle.rss_model.specs.Needs.{needs}
 use Rattle.rss_model.specs.ReplyText.{IsShort}
-use Rattle.rss_model.specs.Steps.{first_of, keeps_locks, refusal, unless_live}
+use Rattle.rss_model.specs.Steps.{keeps_locks, refusal, unless_live}
 use Rattle.rss_model.specs.Tables.{content}
 use Rattle.rss_model.proofs.Endings.{comes_to}
 use Rattle.rss_model.proofs.StepKeeping.{kept_fit}
-use Rattle.rss_model.proofs.Tests.{goes_on, refuses_at, refuses_unless}
+use Rattle.rss_model.proofs.Tests.{refuses_unless}
 use Rattle.rss_session.specs.Calls.{GoesOn as SessionGoesOn}
 use Rattle.rss_session.specs.Looks.{LooksOn}
 use Rattle.rss_session.specs.Parts.{view as session_view}
@@ -44,9 +42,8 @@ use Rattle.rss_session.specs.declared.session.Session.{Session}
 use Rattle.rss_session.proofs.Behind.{looks_as, looks_failed, looks_then}
 use Rattle.rss_session.proofs.Passing.{goes_then}
 use Rattle.rss_rsi.specs.Imaging.{Searches}
-use Rattle.rss_rsi.specs.Linking.{FindsBroken, IsMisnamed, IsRefused, RefusesFound, SaysFound, TestEnds, kept_by, passes_all}
-use Rattle.rss_rsi.specs.Locking.{ClaimEnds, IsClaimed}
-use Rattle.rss_rsi.specs.Looking.{EndsEach}
+use Rattle.rss_rsi.specs.Linking.{FindsBroken, IsMisnamed, IsRefused, SaysFound, TestEnds, kept_by, passes_all}
+use Rattle.rss_rsi.specs.Locking.{ClaimEnds}
 use Rattle.rss_rsi.specs.Placing.{MayCost}
 use Rattle.rss_rsi.specs.Views.{RssParts, IsIn, SameHeld, engine_view}
 use Rattle.rss_rsi.proofs.Changes.{goes_anyhow}

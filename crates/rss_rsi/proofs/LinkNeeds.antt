@@ -1,10 +1,9 @@
 -- The locks of the calls on links, as the catalog gives them, are those of the machine.
-use Rattle.std.proofs.Common.{◌≡◌, ℕ, List, [], ◌∷◌, ◌++◌, refl, sym, ◌∙◌, ap, subst, append_assoc, append-nil}
+use Rattle.std.proofs.Common.{◌≡◌, ℕ, List, [], ◌∷◌, ◌++◌, refl, sym, ◌∙◌, ap, append_assoc, append-nil}
 use Rattle.std.specs.Prelude.{Option, Some, None, is_some, option_map, option_and_then}
 use Rattle.std.specs.FinMap as map
 use Rattle.std.proofs.lemmas.Option.{same_Some}
-use Rattle.rss_base.specs.DiskRule.{IsTold}
-use Rattle.rss_base.specs.Listings.{Listing, IsNumberOf, link_at, relation_at, segment_at}
+use Rattle.rss_base.specs.Listings.{IsNumberOf, link_at, relation_at, segment_at}
 use Rattle.rss_base.specs.declared.item.Item.TheVariants.{Segment, Relation, Tuple, Chain}
 use Rattle.rss_base.specs.declared.link.LinkEntry.{LinkEntry}
 use Rattle.rss_base.specs.declared.name.Name.{Name}
@@ -25,7 +24,6 @@ use Rattle.rss_model.proofs.StepKeeping.{kept_fit}
 use Rattle.rss_rsi.specs.Linking.{ListsBehind, ListsPlaced, chain_list, chain_of, child_list, upper_list}
 use Rattle.rss_rsi.specs.Locking.{Lists}
 use Rattle.rss_rsi.specs.Views.{RssParts, IsIn}
-use Rattle.rss_rsi.specs.declared.locking.Access.{Access}
 use Rattle.rss_rsi.specs.declared.locking.Access.TheVariants.{Read, Change}
 use Rattle.rss_rsi.proofs.Chained.{LinkIn, form_there, link_shown, parent_in}
 use Rattle.rss_rsi.proofs.Needs.{relation_lists}

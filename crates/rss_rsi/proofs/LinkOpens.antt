@@ -1,5 +1,5 @@
 -- The call that opens a scan of a chain: what its step comes to.
-use Rattle.std.proofs.Common.{◌≡◌, inl, inr, ◌<◌, ℕ, ◌+◌, ◌≤◌, List, [], ◌∷◌, refl, sym, ◌∙◌, ap, subst, arith}
+use Rattle.std.proofs.Common.{◌≡◌, inl, inr, ℕ, ◌+◌, ◌≤◌, List, [], ◌∷◌, refl, sym, ◌∙◌, ap, subst, arith}
 use Rattle.std.specs.Prelude.{Option, Some, None, Result, Ok, Err, is_some}
 use Rattle.std.specs.FinMap as map
 use Rattle.std.proofs.lemmas.Bool.{cases_lt}
@@ -21,7 +21,7 @@ use Rattle.rss_base.specs.declared.tid.Tid.{Tid}
 use Rattle.rss_lock.specs.Locks.{LocksView}
 use Rattle.rss_model.specs.Calls.{IsCallOf}
 use Rattle.rss_model.specs.Locks.{granted}
-use Rattle.rss_model.specs.Machine.{State, now}
+use Rattle.rss_model.specs.Machine.{State}
 use Rattle.rss_model.specs.Needs.{needs}
 use Rattle.rss_model.specs.Refusals.{if_scans_used_up}
 use Rattle.rss_model.specs.Scans.{LinkPath, scans_most, new_scan}

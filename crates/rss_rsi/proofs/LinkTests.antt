@@ -1,22 +1,20 @@
 -- What the calls on links are refused for, by the first of their tests that fails.
-use Rattle.std.proofs.Common.{◌≡◌, ℕ, true, false, List, [], ◌∷◌, ◌++◌, refl, sym, ◌∙◌, ap, subst}
+use Rattle.std.proofs.Common.{◌≡◌, ℕ, true, false, List, [], ◌∷◌, ◌++◌, refl, sym, ◌∙◌, subst}
 use Rattle.std.specs.Prelude.{Bool, Option, Some, None, is_some}
-use Rattle.std.specs.FinMap as finite
 use Rattle.rss_base.specs.declared.call.Call.{Call}
 use Rattle.rss_base.specs.declared.call.Call.TheVariants.{Connect, Disconnect, Parent, OpenLink, Delete}
 use Rattle.rss_base.specs.declared.name.Name.{Name}
-use Rattle.rss_base.specs.declared.refusal.Kind.TheVariants.{Link as LinkKind, Relation as RelationKind}
+use Rattle.rss_base.specs.declared.refusal.Kind.TheVariants.{Link as LinkKind}
 use Rattle.rss_base.specs.declared.refusal.LimitKind.TheVariants.{Scans as ScanLimit}
 use Rattle.rss_base.specs.declared.refusal.Refusal.{Refusal}
 use Rattle.rss_base.specs.declared.refusal.Refusal.TheVariants.{NoTransaction, NoSuch, Limit}
 use Rattle.rss_base.specs.declared.spot.Spot.{Spot}
 use Rattle.rss_base.specs.declared.tid.Tid.{Tid}
 use Rattle.rss_model.specs.Callers.{caller}
-use Rattle.rss_model.specs.Defining.{refused_unless}
 use Rattle.rss_model.specs.Locks.{Bar, first_bar}
 use Rattle.rss_model.specs.Machine.{State, now, is_open}
 use Rattle.rss_model.specs.Needs.{needs}
-use Rattle.rss_model.specs.Refusals.{busy, has_form, if_busy, if_connected, if_scans_used_up, link_of, unless_link_form, unless_spot}
+use Rattle.rss_model.specs.Refusals.{busy, has_form, if_busy, if_connected, if_scans_used_up, link_of, unless_spot}
 use Rattle.rss_model.specs.Steps.{admission, first_of, if_full, keeps_locks, refusal, unless_defined, unless_live, unless_open}
 use Rattle.rss_model.proofs.Tests.{goes_on, refuses_at}
 use Rattle.rss_session.specs.Admissions.{link_admission, unless_link}

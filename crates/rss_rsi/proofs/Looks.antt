@@ -57,7 +57,7 @@ use Rattle.rss_rsi.specs.Placing.{FailsToLook, MayCost}
 use Rattle.rss_rsi.specs.declared.locking.Access.{Access}
 use Rattle.rss_rsi.proofs.Claims.{bars_as, locked_as, claim_fails}
 use Rattle.rss_session.proofs.StaysOpen.{same_listed}
-use Rattle.rss_rsi.proofs.Ways.{ScanTable, asked, failed_within, goes, holders_stay, in_held, keeps_same, lacks_behind, refused_behind, rss_parts, scans_stay}
+use Rattle.rss_rsi.proofs.Ways.{ScanTable, asked, failed_within, goes, holders_stay, in_held, lacks_behind, refused_behind, rss_parts, scans_stay}
 
 -- ---- what a look passes on
 

@@ -1,7 +1,6 @@
 -- What a scan of a chain finds next, and what is read of it.
 use Rattle.std.proofs.Common.{◌≡◌, ℕ, Bool, true, false, List, [], ◌∷◌, refl, sym, ◌∙◌, ap, subst}
 use Rattle.std.specs.Prelude.{Option, Some, None, Result, Ok, Err, IsErrAnd, if◌then◌else◌, is_some, option_map, slice_get}
-use Rattle.std.specs.FinMap as map
 use Rattle.std.proofs.lemmas.Bool.{true≢false}
 use Rattle.std.proofs.lemmas.Option.{none-some, same_Some}
 use Rattle.std.proofs.lemmas.Result.{err_from_is_err_and}
@@ -34,7 +33,7 @@ use Rattle.rss_model.specs.Items.{Values}
 use Rattle.rss_model.specs.Kept.{Kept}
 use Rattle.rss_model.specs.Machine.{State, now}
 use Rattle.rss_model.specs.ReplyText.{IsShort}
-use Rattle.rss_model.specs.Scans.{LinkPath, next_along, next_in_chain, path_relation}
+use Rattle.rss_model.specs.Scans.{next_in_chain}
 use Rattle.rss_model.specs.Tables.{LinkDef}
 use Rattle.rss_model.proofs.Standing.{or_first, or_second, tid_itself}
 use Rattle.rss_model.proofs.StepKeeping.{kept_fit}
@@ -46,7 +45,7 @@ use Rattle.rss_session.specs.Shown.{Shows}
 use Rattle.rss_session.proofs.Behind.{looks_as, looks_failed, looks_then}
 use Rattle.rss_session.proofs.Passing.{goes_then}
 use Rattle.rss_rsi.specs.Linking.{SaysFound, TestEnds}
-use Rattle.rss_rsi.specs.Scanning.{ChainGoesOn, FindsAbsent, FindsMember, FindsMemberRow, ReadEnds, Reads, lost_test}
+use Rattle.rss_rsi.specs.Scanning.{ChainGoesOn, FindsMemberRow, ReadEnds, Reads, lost_test}
 use Rattle.rss_rsi.proofs.Chained.{LinkIn, link_entry, link_shown, member_there}
 use Rattle.rss_rsi.proofs.Changes.{goes_anyhow}
 

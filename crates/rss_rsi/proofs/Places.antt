@@ -1,7 +1,6 @@
 -- What looks at chains find, as the calls on links ask for it.
 use Rattle.std.proofs.Common.{◌≡◌, ℕ, Bool, true, false, List, refl, sym, ◌∙◌, ap, subst}
 use Rattle.std.specs.Prelude.{Option, Some, None, Ok, IfSome, if◌then◌else◌, is_some, option_and_then, option_map}
-use Rattle.std.proofs.lemmas.Bool.{true≢false}
 use Rattle.std.proofs.lemmas.Option.{none-some, same_Some}
 use Rattle.rss_base.specs.DiskRule.{IsTold}
 use Rattle.rss_base.specs.Listings.{IsNumberOf, link_at, relation_at}
@@ -16,7 +15,7 @@ use Rattle.rss_base.specs.declared.spot.Spot.{Spot}
 use Rattle.rss_base.specs.declared.tid.Tid.{Tid}
 use Rattle.rss_members.specs.Calls.{IsPlaceOf, above_in}
 use Rattle.rss_members.specs.declared.membership.Membership.{Membership}
-use Rattle.rss_model.specs.Chains.{chain, chain_with, has_spot, left_of, stands_in}
+use Rattle.rss_model.specs.Chains.{chain, chain_with, has_spot, left_of}
 use Rattle.rss_model.specs.Kept.{Kept}
 use Rattle.rss_model.specs.Machine.{State, now}
 use Rattle.rss_model.specs.Refusals.{unless_child, unless_live, unless_live_below, unless_parent, unless_spot}

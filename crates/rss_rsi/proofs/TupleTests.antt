@@ -21,7 +21,6 @@ use Rattle.rss_model.specs.Needs.{needs}
 use Rattle.rss_model.specs.Refusals.{busy, if_busy_for, if_connected, if_duplicate}
 use Rattle.rss_model.specs.Steps.{first_of, tests, is_open, if_used_up, keeps_locks, misfit_of, unless_open, unless_defined, unless_live, admission, value_admission, if_full, refusal}
 use Rattle.rss_model.specs.Tables.{content, fields_of}
-use Rattle.rss_model.proofs.Testing.{holds}
 use Rattle.rss_model.proofs.Tests.{goes_on, refuses_at, passes_unless, refuses_unless}
 use Rattle.rss_session.proofs.First.{first_stops, first_passes}
 

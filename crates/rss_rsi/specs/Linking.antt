@@ -1,5 +1,5 @@
 -- What a call on a link asks for, and what it finds.
-use Rattle.std.specs.Prelude.{◌≡◌, ℕ, ◌^◌, ◌<◌, Bool, true, List, [], ◌∷◌, ◌++◌, Option, Some, None, is_some, option_map, IfSome, Result, Ok, Err, ⊤}
+use Rattle.std.specs.Prelude.{◌≡◌, ℕ, true, List, [], ◌∷◌, ◌++◌, Option, Some, None, option_map, IfSome, Result, Ok, Err, ⊤}
 use Rattle.std.specs.FinMap as map
 use Rattle.rss_base.specs.DiskRule.{IsTold}
 use Rattle.rss_base.specs.LogRecords.{HasSlot, HasPage}
@@ -9,7 +9,6 @@ use Rattle.rss_base.specs.declared.fault.PageFault.TheVariants.{Device as Device
 use Rattle.rss_base.specs.declared.item.Item.{Item}
 use Rattle.rss_base.specs.declared.item.Item.TheVariants.{Chain as ChainItem}
 use Rattle.rss_base.specs.declared.name.Name.{Name}
-use Rattle.rss_base.specs.declared.need.Mode.TheVariants.{X}
 use Rattle.rss_base.specs.declared.need.Need.{Need}
 use Rattle.rss_base.specs.declared.place.Place.TheVariants.{Tuple as TuplePlace}
 use Rattle.rss_base.specs.declared.refusal.Refusal.{Refusal}
@@ -22,7 +21,7 @@ use Rattle.rss_model.specs.Defining.{refused_unless, refused_if}
 use Rattle.rss_model.specs.Kept.{Kept}
 use Rattle.rss_model.specs.Locks.{Locks, granted}
 use Rattle.rss_model.specs.Machine.{State, now}
-use Rattle.rss_model.specs.Needs.{need, chain_needs, disconnect_needs, upper_needs, tuple_read, tuple_changed}
+use Rattle.rss_model.specs.Needs.{chain_needs, disconnect_needs, upper_needs, tuple_read, tuple_changed}
 use Rattle.rss_model.specs.Refusals.{is_in_chain, link_of, unless_child, unless_parent, unless_spot}
 use Rattle.rss_model.specs.ReplyText.{IsShort}
 use Rattle.rss_model.specs.Steps.{first_of, keeps_locks}

@@ -5,7 +5,7 @@ use Rattle.std.proofs.lemmas.Bool.{cases_eq, true≢false}
 use Rattle.rss_base.specs.DiskRule.{IsTold}
 use Rattle.rss_base.specs.PageMap.{IsKey}
 use Rattle.rss_base.specs.Paged.{Held, Mapped, page_key}
-use Rattle.rss_base.specs.Sizes.{segments, system_pages}
+use Rattle.rss_base.specs.Sizes.{system_pages}
 use Rattle.rss_base.specs.Steps.{PagesView, no_page}
 use Rattle.rss_base.specs.Looking.{ChecksPages}
 use Rattle.rss_base.specs.Listings.{Listing, ListingFits, HoldsListing, segment_at}

@@ -1,5 +1,4 @@
-use Rattle.std.proofs.Common.{◌≡◌, ℕ, ◌∙◌, sym, arith}
-use Rattle.std.specs.Fn.{iterate}
+use Rattle.std.proofs.Common.{◌≡◌, ℕ, ◌∙◌}
 use Rattle.rss_model.specs.Generator.{next_state}
 use Rattle.rss_line.specs.Draws.{moved}
 use Rattle.rss_line.proofs.Draws.{moved_twice, next_moved, iterate_same, iterate_even, iterate_odd}

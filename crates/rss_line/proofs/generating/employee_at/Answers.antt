@@ -1,5 +1,4 @@
-use Rattle.std.proofs.Common.{◌≡◌, ℕ, ◌+◌, ◌<◌, length, refl, rules, arith}
-use Rattle.rss_model.specs.Generator.{first_employees}
+use Rattle.std.proofs.Common.{◌≡◌, ◌+◌, arith}
 use Rattle.rss_line.proofs.Generated.{none_before}
 use Rattle.rss_line.proofs.generating.employee_at.Goals as goal
 

@@ -1,4 +1,4 @@
-use Rattle.std.proofs.Common.{◌≡◌, ℕ, ◌+◌, ◌-◌, ◌<◌, ◌≤◌, List, ◌∙◌, length, sym, ap, arith}
+use Rattle.std.proofs.Common.{◌≡◌, ℕ, ◌-◌, ◌∙◌, length, sym, ap, arith}
 use Rattle.std.specs.Prelude.{slice_get}
 use Rattle.rss_model.specs.Generator.{first_employees, employee_lines, state_before}
 use Rattle.rss_line.proofs.Parts.{moved_to}

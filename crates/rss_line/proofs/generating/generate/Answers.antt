@@ -1,5 +1,5 @@
-use Rattle.std.proofs.Common.{◌≡◌, ℕ, ◌-◌, ◌<◌, ◌≤◌, List, ◌++◌, ◌∙◌, length, refl, sym, ap, arith}
-use Rattle.std.specs.Prelude.{Some, None, slice_get}
+use Rattle.std.proofs.Common.{◌≡◌, ℕ, ◌-◌, ◌<◌, ◌≤◌, ◌++◌, ◌∙◌, length, sym, ap, arith}
+use Rattle.std.specs.Prelude.{Some, slice_get}
 use Rattle.rss_model.specs.Generator.{opening_lines, first_employees, closing_lines, generated}
 use Rattle.rss_line.proofs.Parts.{get_front, get_past}
 use Rattle.rss_line.proofs.Generated.{nineteen}

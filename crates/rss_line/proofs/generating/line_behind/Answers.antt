@@ -1,4 +1,4 @@
-use Rattle.std.proofs.Common.{sym, Bool, false, ◌≡◌, ℕ, ◌-◌, ◌<◌, ◌≤◌, ◌++◌, ◌∙◌, length, refl, ap, arith, length-append}
+use Rattle.std.proofs.Common.{sym, Bool, false, ◌≡◌, ℕ, ◌-◌, ◌<◌, ◌≤◌, ◌++◌, ◌∙◌, length, ap, arith, length-append}
 use Rattle.std.specs.Prelude.{Some, slice_get, codes, ◌==◌, if◌then◌else◌}
 use Rattle.std.proofs.lemmas.Bool.Decides.{nat_tests}
 use Rattle.rss_model.specs.Generator.{next_state, next_pay_state, drawn, update_line, update_lines, fetch_lines, end_lines}

@@ -1,4 +1,4 @@
-use Rattle.std.proofs.Common.{Bool, suc, ◌≡◌, ℕ, ◌+◌, ◌-◌, ◌<◌, ◌≤◌, List, ◌∷◌, ◌++◌, ◌∙◌, length, refl, sym, ap, rules, arith, length-append}
+use Rattle.std.proofs.Common.{Bool, suc, ◌≡◌, ℕ, ◌-◌, ◌<◌, ◌≤◌, ◌∷◌, ◌∙◌, length, refl, sym, ap, arith, length-append}
 use Rattle.std.specs.Prelude.{Some, slice_get, codes, ◌==◌, if◌then◌else◌}
 use Rattle.rss_model.specs.Generator.{next_state, pay_state, department_state, drawn, insert_line, connect_line, begin_lines, lines_behind, employee_lines}
 use Rattle.rss_line.proofs.Parts.{made, moved_to, get_front, get_past, not_zero}

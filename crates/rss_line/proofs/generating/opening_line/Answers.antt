@@ -1,4 +1,4 @@
-use Rattle.std.proofs.Common.{◌∙◌, refl, arith}
+use Rattle.std.proofs.Common.{refl, arith}
 use Rattle.rss_model.specs.Generator.{opening_lines}
 use Rattle.rss_line.proofs.Parts.{made}
 use Rattle.rss_line.proofs.Generated.{opening_department}

@@ -1,13 +1,5 @@
-use Rattle.std.proofs.Common.{◌≡◌, ◌∙◌, ap, sym, arith}
-use Rattle.std.specs.Prelude.{Err}
-use Rattle.rss_base.specs.DiskRule.{IsTold}
+use Rattle.std.proofs.Common.{arith}
 use Rattle.rss_base.proofs.Steps.{rests}
-use Rattle.rss_page.specs.Content.{Content}
-use Rattle.rss_page.specs.Slotted.{entries}
-use Rattle.rss_page.specs.Surveyed.{held_at}
-use Rattle.rss_tuple.specs.Directory.{content_at}
-use Rattle.rss_tuple.proofs.Seen.{found_damaged}
-use Rattle.rss_tuple.proofs.Placed.{read_at}
 use Rattle.rss_tuple.proofs.Sets.{edits_fails, ill_formed, damage_told, holds_at}
 use Rattle.rss_tuple.proofs.entries.clear_body.Goals as goal
 use Rattle.rss_tuple.proofs.entries.clear_body.Goals.{Start}

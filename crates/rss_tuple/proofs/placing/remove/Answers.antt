@@ -1,15 +1,14 @@
-use Rattle.std.proofs.Common.{◌≡◌, ◌∙◌, inl, ⊎_elim, sym, ap, arith}
+use Rattle.std.proofs.Common.{◌∙◌, inl, ap, arith}
 use Rattle.std.specs.Prelude.{Err}
 use Rattle.rss_base.specs.Paged.{page_key}
 use Rattle.rss_base.specs.declared.fault.PageFault.TheVariants.{Damaged}
 use Rattle.rss_base.specs.declared.place.Place.TheVariants.{Page as PagePlace}
 use Rattle.rss_base.specs.declared.key.PageKey.{PageKey}
 use Rattle.rss_base.specs.declared.key.Space.TheVariants.{Home}
-use Rattle.rss_base.proofs.Steps.{rests, untouched, then_call, widens, fails, all_held, all_mapped}
+use Rattle.rss_base.proofs.Steps.{rests, untouched, then_call, fails, all_held, all_mapped}
 use Rattle.rss_tuple.proofs.Seen.{on_ok_then, found_damaged, high_empty}
 use Rattle.rss_tuple.proofs.Placed.{changed_before, copied_key, mapped_there}
 use Rattle.rss_tuple.proofs.Taken.{takes_same}
-use Rattle.rss_tuple.proofs.Sets.{damage_told}
 use Rattle.rss_tuple.proofs.Changes.{entry_there, has_after}
 use Rattle.rss_tuple.proofs.placing.remove.Goals as goal
 

@@ -1,4 +1,4 @@
-use Rattle.std.proofs.Common.{rules, arith}
+use Rattle.std.proofs.Common.{arith}
 use Rattle.rss_words.proofs.GoodWords.{count_few, count_none}
 use Rattle.rss_words.proofs.good.is_count.Goals as goal
 

@@ -1,4 +1,4 @@
-use Rattle.std.proofs.Common.{ap, true, ◌≡◌, ◌∙◌}
+use Rattle.std.proofs.Common.{ap, true, ◌∙◌}
 use Rattle.clap.specs.Words.{Shape}
 use Rattle.clap.specs.Simple.{app_of_fields, on_top}
 use Rattle.rss_words.proofs.parsing.bare.Goals as goal

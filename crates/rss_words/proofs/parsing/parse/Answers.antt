@@ -1,10 +1,10 @@
-use Rattle.std.proofs.Common.{◌≡◌, ◌∙◌, List, ℕ, map, ap, sym, subst, true}
+use Rattle.std.proofs.Common.{◌≡◌, ◌∙◌, map, ap, sym, subst, true}
 use Rattle.std.specs.Prelude.{string_bytes}
 use Rattle.std.proofs.lemmas.Option.{none-some, same_Some}
 use Rattle.clap.specs.Words.{App, app_of, is_simple, subcommand_of, subcommand_rows_of, takes}
 use Rattle.rss_words.specs.Words.{AskFor}
 use Rattle.rss_words.specs.declared.command.Command.{Command}
-use Rattle.rss_words.specs.Rows.{rss, Finds}
+use Rattle.rss_words.specs.Rows.{rss}
 use Rattle.rss_words.proofs.Taken.{simple, good_found, good_taken}
 use Rattle.rss_words.proofs.parsing.parse.Goals as goal
 

@@ -1,12 +1,10 @@
-use Rattle.std.proofs.Common.{◌≡◌, ◌≤◌, ◌∙◌, ap, arith, length, refl, sym, subst, true, Vec, Global}
-use Rattle.std.specs.Prelude.{Bool, Option, Some, None, Ok, Err, IfSome, is_some}
+use Rattle.std.proofs.Common.{◌≡◌, ◌∙◌, ap, arith, length, refl, sym, subst, Vec, Global}
+use Rattle.std.specs.Prelude.{Bool, Some, None, Ok, Err, is_some}
 use Rattle.rss_base.specs.Listings.{IsNumberOf}
-use Rattle.rss_base.specs.LogRecords.{HasSlot}
 use Rattle.rss_base.specs.declared.call.Call.TheVariants.{Connect}
 use Rattle.rss_base.specs.declared.name.Name.{Name}
 use Rattle.rss_base.specs.declared.need.Need.{Need}
 use Rattle.rss_base.specs.declared.refusal.Kind.TheVariants.{Link as LinkKind}
-use Rattle.rss_base.specs.declared.tid.Tid.{Tid}
 use Rattle.rss_lock.specs.Table.{told}
 use Rattle.rss_lock.specs.declared.locks.Locks.{Locks as LockTable}
 use Rattle.rss_members.specs.Calls.{HasForm}

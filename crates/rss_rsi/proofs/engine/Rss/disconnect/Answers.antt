@@ -1,5 +1,5 @@
-use Rattle.std.proofs.Common.{◌≡◌, ◌≤◌, ◌∙◌, [], ap, arith, length, refl, sym, subst, true, Vec, Global}
-use Rattle.std.specs.Prelude.{Option, Some, None, Ok, Err, IfSome, is_some}
+use Rattle.std.proofs.Common.{◌∙◌, ap, arith, length, sym, subst, Vec, Global}
+use Rattle.std.specs.Prelude.{Option, None, Ok, Err, IfSome, is_some}
 use Rattle.std.proofs.lemmas.Option.{none-some}
 use Rattle.rss_base.specs.Listings.{IsNumberOf}
 use Rattle.rss_base.specs.declared.need.Need.{Need}
@@ -15,7 +15,7 @@ use Rattle.rss_session.specs.Linking.{FindsMembership}
 use Rattle.rss_session.specs.Looks.{LooksOn}
 use Rattle.rss_session.specs.Parts.{view as session_view}
 use Rattle.rss_session.specs.declared.session.Session.{Session}
-use Rattle.rss_session.proofs.Behind.{looks_itself, looks_then}
+use Rattle.rss_session.proofs.Behind.{looks_itself}
 use Rattle.rss_trans.specs.Transactions.{OpenView, is_open}
 use Rattle.rss_rsi.specs.Linking.{IsPlaced, ListsPlaced, kept_by}
 use Rattle.rss_rsi.specs.Locking.{IsClaimed}

@@ -1,5 +1,5 @@
 use Rattle.std.proofs.Common.{[], ap, refl, sym, ◌∙◌}
-use Rattle.std.specs.Prelude.{Err, Some, is_some, option_map}
+use Rattle.std.specs.Prelude.{Some, is_some, option_map}
 use Rattle.rss_base.specs.Listings.{link_at, relation_at}
 use Rattle.rss_catalog.specs.Catalogs.{CatalogView}
 use Rattle.rss_model.specs.Images.{entry}

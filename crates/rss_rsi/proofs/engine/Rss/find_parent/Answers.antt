@@ -1,4 +1,4 @@
-use Rattle.std.proofs.Common.{◌≡◌, ◌∙◌, ap, Option}
+use Rattle.std.proofs.Common.{◌≡◌, ◌∙◌, ap}
 use Rattle.std.specs.Prelude.{Err, None, is_some}
 use Rattle.rss_base.specs.Listings.{link_at}
 use Rattle.rss_base.specs.declared.name.Name.{Name}

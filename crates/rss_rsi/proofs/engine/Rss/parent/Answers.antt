@@ -1,4 +1,4 @@
-use Rattle.std.proofs.Common.{◌≡◌, ◌∙◌, ap, arith, length, refl, sym, subst, true, Vec, Global}
+use Rattle.std.proofs.Common.{◌≡◌, ◌∙◌, ap, arith, refl, sym, subst, Vec, Global}
 use Rattle.std.specs.Prelude.{Ok, Err}
 use Rattle.rss_base.specs.declared.call.Call.TheVariants.{Parent}
 use Rattle.rss_base.specs.declared.name.Name.{Name}
@@ -15,7 +15,7 @@ use Rattle.rss_scan.specs.Scans.{told as scans_told}
 use Rattle.rss_session.specs.Looks.{LooksOn}
 use Rattle.rss_session.specs.Parts.{view as session_view}
 use Rattle.rss_session.specs.declared.session.Session.{Session}
-use Rattle.rss_session.proofs.Behind.{looks_as, looks_itself, looks_then}
+use Rattle.rss_session.proofs.Behind.{looks_itself, looks_then}
 use Rattle.rss_trans.specs.Transactions.{OpenView, is_open}
 use Rattle.rss_rsi.specs.Linking.{below_test, kept_by}
 use Rattle.rss_rsi.specs.Parts.{parts_of, session_of}

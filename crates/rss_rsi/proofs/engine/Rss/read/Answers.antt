@@ -1,5 +1,4 @@
 use Rattle.std.proofs.Common.{arith, refl}
-use Rattle.std.specs.Prelude.{Ok}
 use Rattle.rss_base.specs.TupleTypes.{kinds}
 use Rattle.rss_model.proofs.Lengths.{row_line}
 use Rattle.rss_rsi.specs.Parts.{parts_of}

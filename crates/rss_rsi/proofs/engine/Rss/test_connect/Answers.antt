@@ -1,7 +1,6 @@
-use Rattle.std.proofs.Common.{◌≡◌, [], ◌∷◌, ◌∙◌, Option}
+use Rattle.std.proofs.Common.{◌≡◌, [], ◌∷◌, ◌∙◌}
 use Rattle.std.specs.Prelude.{Err}
 use Rattle.std.proofs.lemmas.Result.{IfOk-weaker}
-use Rattle.rss_base.specs.declared.refusal.Refusal.{Refusal}
 use Rattle.rss_base.specs.declared.name.Name.{Name}
 use Rattle.rss_model.specs.Chains.{chain, left_of}
 use Rattle.rss_model.specs.Machine.{State, now}

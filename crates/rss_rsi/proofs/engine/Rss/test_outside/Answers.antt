@@ -1,8 +1,5 @@
-use Rattle.std.proofs.Common.{sym, subst, refl}
-use Rattle.std.specs.Prelude.{Err}
-use Rattle.rss_base.specs.declared.answer.CallError.{CallError}
-use Rattle.rss_base.specs.declared.refusal.Refusal.TheVariants.{Connected}
-use Rattle.rss_rsi.specs.Linking.{if_placed, passes_all}
+use Rattle.std.proofs.Common.{refl}
+use Rattle.rss_rsi.specs.Linking.{if_placed}
 use Rattle.rss_rsi.specs.Parts.{session_of}
 use Rattle.rss_rsi.proofs.LinkEnds.{passed_test, test_passes, test_refused, test_stops_any}
 use Rattle.rss_rsi.proofs.Places.{none_placed, some_placed}
