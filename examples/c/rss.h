@@ -39,8 +39,8 @@ typedef struct {
 } rss_text;
 
 /* What a file is to do next. A store that was opened, or a line that was run, is in the file once the
-   file has done all steps up to then, in their order; a stop before that leaves a store too. If one
-   fails, close the store and open it anew from the file. */
+   file has done all steps up to then, in their order. A stop before that leaves a store too, but for
+   one within the steps of a format. If one fails, close the store and open it anew from the file. */
 enum {
     RSS_WRITE = 1,  /* write the page at the place `at`, counted in pages */
     RSS_SYNC = 2,   /* bring to the disk what was written, and the size */
