@@ -9,7 +9,8 @@ use Rattle.rss_base.specs.declared.tid.Tid.{Tid}
 use Rattle.rss_base.specs.declared.key.PageKey.{PageKey}
 use Rattle.rss_base.specs.declared.key.Space.TheVariants.{Home, Overflow, Image}
 use Rattle.rss_base.proofs.Steps.{all_mapped, all_held}
-use Rattle.rss_page.specs.Slotted.{IsHeapKey, bodies_room}
+use Rattle.rss_base.specs.Sizes.{bodies_room}
+use Rattle.rss_page.specs.Slotted.{IsHeapKey}
 use Rattle.rss_tuple.specs.Checked.{pages_of}
 use Rattle.rss_tuple.specs.Directory.{Bodies, bodies_of, with_body}
 use Rattle.rss_entries.specs.Rooms.{image_places}

@@ -1,5 +1,5 @@
 -- What stands in bodies behind the number of the relation and the blocks of its links.
-use Rattle.std.proofs.Common.{◌≡◌, ℕ, ◌-◌, List, ◌∷◌, ◌++◌, length, take, drop, refl, sym, ◌∙◌, ap, subst, arith, length-take-le, take_all}
+use Rattle.std.proofs.Common.{◌≡◌, ℕ, ◌-◌, List, ◌∷◌, ◌++◌, length, take, drop, sym, ◌∙◌, ap, subst, arith, length-take-le, take_all}
 use Rattle.std.specs.Prelude.{Option, Some, None, IfSome, All, is_some, option_copied}
 use Rattle.std.specs.Borrow.{Bor}
 use Rattle.std.specs.Slice.{IsGetRangeResult}
@@ -8,18 +8,19 @@ use Rattle.std.proofs.Math.Seq.{drop-append_seam}
 use Rattle.std.proofs.lemmas.Option.{same_Some}
 use Rattle.rss_base.specs.Listings.{Listing, relation_at}
 use Rattle.rss_base.specs.Prefixes.{prefix_size}
-use Rattle.rss_base.specs.TupleTypes.{tuple_bytes, IsStorable}
+use Rattle.rss_base.specs.TupleTypes.{kinds, tuple_bytes, IsStorable}
 use Rattle.rss_base.specs.declared.name.Name.{Name}
 use Rattle.rss_base.specs.declared.item.Item.TheVariants.{Tuple as TupleItem}
 use Rattle.rss_base.specs.declared.relation.RelationEntry.{RelationEntry}
 use Rattle.rss_base.specs.declared.tid.Tid.{Tid}
+use Rattle.rss_base.specs.declared.value.FieldForm.{FieldForm}
 use Rattle.rss_base.specs.declared.value.Value.{Value}
 use Rattle.rss_tuple.specs.Directory.{Bodies}
 use Rattle.rss_model.specs.Items.{Content, Values}
 use Rattle.rss_model.specs.Tables.{Contents, content}
-use Rattle.rss_model.specs.Store.{SpellsContents, body_of, prefix_of}
-use Rattle.rss_model.proofs.Blocks.{prefix_long}
-use Rattle.rss_model.proofs.Listed.{tuple_item}
+use Rattle.rss_stored.specs.Store.{SpellsContents, body_of, fields_at, prefix_of}
+use Rattle.rss_stored.proofs.Blocks.{prefix_long}
+use Rattle.rss_stored.proofs.Listed.{fields_at_is, tuple_item}
 use Rattle.rss_access.specs.Bodies.{HoldsBytes}
 
 -- behind the blocks stand these bytes alone
@@ -43,14 +44,20 @@ part_holds listing {number = number} {size = size} {rest = rest} (Some part) beg
       is = begins ∙ (λ i. same i ∷ (sym (take-append-drop size rest) ∙ ap (λ (b : List ℕ). take size rest ++ b) (sym all)) i);
     }
 
--- in a tuple's body, those of its values
-pub body_holds : (listing : Listing) (contents : Contents) (number : ℕ) (tid : Tid) (values : List Value) → HoldsBytes listing number (body_of listing contents number tid values) (tuple_bytes values)
-body_holds listing contents number tid values = record { prefix = prefix_of listing contents number tid; long = prefix_long listing contents number tid; is = refl }
+-- a tuple's body, by the fields of its relation
+pub body_is : (listing : Listing) (contents : Contents) (number : ℕ) (relation : RelationEntry) → relation_at listing number ≡ Some relation → (tid : Tid) (values : List Value)
+    → body_of listing contents number tid values ≡ number ∷ (prefix_of listing contents number tid ++ tuple_bytes (kinds relation.fields) values)
+body_is listing contents number relation at tid values = ap (λ (fields : List FieldForm). number ∷ (prefix_of listing contents number tid ++ tuple_bytes fields values)) (fields_at_is listing number relation at)
+
+-- in it, the bytes of its values
+pub body_holds : (listing : Listing) (contents : Contents) (number : ℕ) (relation : RelationEntry) → relation_at listing number ≡ Some relation → (tid : Tid) (values : List Value)
+    → HoldsBytes listing number (body_of listing contents number tid values) (tuple_bytes (kinds relation.fields) values)
+body_holds listing contents number relation at tid values = record { prefix = prefix_of listing contents number tid; long = prefix_long listing contents number tid; is = body_is listing contents number relation at tid values }
 
 -- A tuple of a relation, whose body has this behind the relation's number.
 pub record IsTupleWith (listing : Listing) (contents : Contents) (number : ℕ) (relation : RelationEntry) (tid : Tid) (rest : List ℕ) : Type 0 where
   pub values : List Value
-  pub bytes : HoldsBytes listing number (number ∷ rest) (tuple_bytes values)
+  pub bytes : HoldsBytes listing number (number ∷ rest) (tuple_bytes (kinds relation.fields) values)
   pub storable : All IsStorable values
   pub holds : content contents (TupleItem relation.name tid) ≡ Some (Values values)
 
@@ -66,7 +73,7 @@ tuple_with {listing = listing} {contents = contents} spells number relation its 
       bytes = record {
         prefix = prefix_of listing contents of.number tid;
         long = prefix_long listing contents of.number tid ∙ ap (prefix_size listing.links) (sym parts.0);
-        is = ap (λ (b : List ℕ). number ∷ b) parts.1;
+        is = ap (λ (b : List ℕ). number ∷ b) parts.1 ∙ ap (λ (fields : List FieldForm). number ∷ (prefix_of listing contents of.number tid ++ tuple_bytes fields of.values)) (ap (fields_at listing) (sym parts.0) ∙ fields_at_is listing number relation its);
       };
       storable = of.storable;
       holds = ap (λ (r : RelationEntry). content contents (TupleItem r.name tid)) (sym one) ∙ of.holds;

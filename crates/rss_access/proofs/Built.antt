@@ -16,7 +16,7 @@ use Rattle.rss_image.specs.declared.image.Image.{Image}
 use Rattle.rss_image.proofs.Kept.{page_pair}
 use Rattle.rss_image.proofs.Laid.{zeros_page}
 use Rattle.rss_catalog.proofs.Numbered.{numbered_within, with_same}
-use Rattle.rss_model.specs.Store.{IsListedImage}
+use Rattle.rss_stored.specs.Store.{IsListedImage}
 use Rattle.rss_entries.specs.Building.{pair_list, BuildsMade}
 use Rattle.rss_entries.specs.Images.{image_of}
 use Rattle.rss_entries.proofs.Showing.{same_entry, at_same}

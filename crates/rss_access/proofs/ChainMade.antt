@@ -29,7 +29,7 @@ use Rattle.rss_catalog.specs.Catalogs.{CatalogView, Lists, page_of, with_ends}
 use Rattle.rss_model.specs.Chains.{chain, with_behind, without}
 use Rattle.rss_model.specs.Meanings.{endless, rootless}
 use Rattle.rss_model.proofs.LogLists.{some_of}
-use Rattle.rss_model.proofs.Relisted.{number_at, number_set, number_within_list}
+use Rattle.rss_stored.proofs.Relisted.{number_at, number_set, number_within_list}
 use Rattle.rss_members.specs.declared.membership.Membership.{Membership}
 use Rattle.rss_members.specs.Calls.{MembersView, MayRelink, Connects, Disconnects, NoneConnects, NoneDisconnects, Reends, Relinks, relink_cost, pages_in_link, pages_of_link}
 use Rattle.rss_access.specs.Changes.{AccessView, both, members, CanAlter, HasTables, AltersChain, Alters, Misfits, Makes, Takes, pages_told}

@@ -29,7 +29,7 @@ use Rattle.rss_model.specs.Images.{image_list}
 use Rattle.rss_model.specs.Items.{Content, Tuples}
 use Rattle.rss_model.specs.Meanings.{TellsPlace, nameless, name_at}
 use Rattle.rss_model.specs.Meter.{MayLead}
-use Rattle.rss_model.specs.Store.{SpellsTables, AreNodesWithin, IsListedImage, IsListedLink, IsStorePage, image_definition, link_definition}
+use Rattle.rss_stored.specs.Store.{SpellsTables, AreNodesWithin, IsListedImage, IsListedLink, IsStorePage, image_definition, link_definition}
 use Rattle.rss_model.specs.Tables.{LinkDef, Contents, Tables, content, put, tuple_count}
 use Rattle.rss_model.proofs.Contents.{content_here, content_elsewhere}
 use Rattle.rss_model.proofs.Counts.{one_if, counts_same}
@@ -37,9 +37,9 @@ use Rattle.rss_model.proofs.LogChanging.{by_item}
 use Rattle.rss_model.proofs.LogLists.{by_test, false_true}
 use Rattle.rss_model.proofs.Mixing.{In, each_of}
 use Rattle.rss_model.proofs.Refitting.{chain_parts}
-use Rattle.rss_model.proofs.Relisted.{KeepsImages, images_kept as images_relisted}
+use Rattle.rss_stored.proofs.Relisted.{KeepsImages, images_kept as images_relisted}
 use Rattle.rss_model.proofs.SeenAlike.{entries_same}
-use Rattle.rss_model.proofs.Spelled.{name_numbered, listed_link}
+use Rattle.rss_stored.proofs.Spelled.{name_numbered, listed_link}
 use Rattle.rss_model.proofs.Standing.{tid_itself, tid_same, tid_apart, or_first, or_none, some_behind, stands_behind, tuples_of}
 use Rattle.rss_link.specs.Calls.{IsSegmentOf, link_pages}
 use Rattle.rss_members.specs.Members.{chains_of, of_parents, segment_in, segment_of, with_chain}
@@ -384,8 +384,8 @@ pub none_taken : {old new : PagesView} → TakesOnly no_page old new → (key : 
 none_taken takes key is = ⊎_elim (λ was. was) (λ no. absurd no) (takes.each key is)
 
 module _ {result : MembersView → MembersView → Type 0} {number cost : ℕ} {old new : AccessView} (step : PagesStep (pages_of_link old.catalog.listing number) cost cost old.pages new.pages) (alters : AltersChain result number old new) (told : IsTold old.pages.disk) where
-  pub chain_leads : (tables : Tables) (item : Item) (was next : Option Content) → MayLead tables item was next (mapped_of old.pages.mapped Overflow old.pages.slots) (mapped_of new.pages.mapped Overflow new.pages.slots)
-  chain_leads tables item was next = record { one = omega (arith, less); only = λ not. less }
+  pub chain_leads : (before after : Tables) (item : Item) → MayLead before after item (mapped_of old.pages.mapped Overflow old.pages.slots) (mapped_of new.pages.mapped Overflow new.pages.slots)
+  chain_leads before after item = omega (arith, less)
     where
       less : mapped_of new.pages.mapped Overflow new.pages.slots ≤ mapped_of old.pages.mapped Overflow old.pages.slots
       less = omega (

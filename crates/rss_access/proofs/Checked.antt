@@ -33,10 +33,10 @@ use Rattle.rss_image.proofs.Putting.{spell_one}
 use Rattle.rss_model.specs.Items.{Values}
 use Rattle.rss_model.specs.Tables.{Tables, content}
 use Rattle.rss_model.specs.Images.{Entry, image_list}
-use Rattle.rss_model.specs.Store.{IsListedImage, image_definition, pair_spelled}
+use Rattle.rss_stored.specs.Store.{IsListedImage, image_definition, pair_spelled}
 use Rattle.rss_model.proofs.Mixing.{In}
 use Rattle.rss_model.proofs.RelationLists.{entry_there}
-use Rattle.rss_model.proofs.Spelled.{tuple_bytes_same}
+use Rattle.rss_stored.proofs.Spelled.{tuple_bytes_same}
 use Rattle.rss_entries.specs.Rooms.{width_of}
 use Rattle.rss_entries.specs.Images.{image_of, key_of}
 use Rattle.rss_entries.specs.Keyed.{key_with}
@@ -98,7 +98,7 @@ module _ {at : AccessView} (small : at.pages.slots < 2 ^ 32) {tables : Tables} (
         let of = tuple_pair shown a is in
         let fits = shown.tuples of.tid of.values of.there in
         let entry = has of.tid _ (shows.contents.stands image.relation relation of.tid of.values its.within of.there) in
-        let bytes : entry.0 ≡ tuple_bytes of.values = one_bytes entry.1 (body_holds listing tables.contents image.relation of.tid of.values) in
+        let bytes : entry.0 ≡ tuple_bytes (kinds relation.fields) of.values = one_bytes entry.1 (body_holds listing tables.contents image.relation relation its.within of.tid of.values) in
         let among = entry.2.there of.values (record { fit = fits.fit; storable = fits.storable; same = bytes }) pairs tree in
         subst (λ (p : List ℕ). In p pairs) of.is (contains_in pairs (pair_with (key_of image relation) of.tid of.values) among)
 
@@ -107,7 +107,7 @@ module _ {at : AccessView} (small : at.pages.slots < 2 ^ 32) {tables : Tables} (
     entries_there all tree is tid rest stands =
         let of = tuple_of image.relation relation its.within tid rest stands in
         let fits = shown.tuples tid of.values of.holds in (
-          tuple_bytes of.values,
+          tuple_bytes (kinds relation.fields) of.values,
           of.bytes,
           record {
             spelled = (of.values, record { fit = fits.fit; storable = fits.storable; same = refl });

@@ -11,7 +11,7 @@ use Rattle.std.proofs.lemmas.List.{length-map}
 use Rattle.std.proofs.lemmas.Option.{same_Some}
 use Rattle.std.proofs.lemmas.List.Elements.{All-contains}
 use Rattle.std.proofs.lemmas.List.Sorted.{All-permutation, Contains-permutation, length_permutation, ranks_by, sorted_far}
-use Rattle.rss_base.specs.TupleTypes.{chosen, key_width, tuple_bytes}
+use Rattle.rss_base.specs.TupleTypes.{kinds, chosen, key_width, tuple_bytes}
 use Rattle.rss_base.specs.Listings.{Listing, relation_at, field_numbers}
 use Rattle.rss_base.specs.declared.tid.Tid.{Tid}
 use Rattle.rss_base.specs.declared.image.ImageEntry.{ImageEntry}
@@ -22,7 +22,7 @@ use Rattle.rss_node.specs.Pairs.{IsSpelledTid, pair_bytes}
 use Rattle.rss_node.proofs.Ordered.{pairs_ordered}
 use Rattle.rss_model.specs.Images.{Entry}
 use Rattle.rss_model.specs.Tables.{Tables}
-use Rattle.rss_model.specs.Store.{body_of, prefix_of}
+use Rattle.rss_stored.specs.Store.{body_of, fields_at, prefix_of}
 use Rattle.rss_model.proofs.ImageLists.{entry_apart}
 use Rattle.rss_model.proofs.Mixing.{In}
 use Rattle.rss_entries.specs.Building.{AreRising}
@@ -90,7 +90,7 @@ sorted_rise keys entries sorted apart long spelled moved is =
 module _ {at : AccessView} (small : at.pages.slots < 2 ^ 32) {tables : Tables} (shows : ShowsTuples at tables) (number : ℕ) {relation : RelationEntry} (its : relation_at at.catalog.listing number ≡ Some relation) where
   -- each tuple's bytes are those of values
   pub none_misspelled : (tid : Tid) → IsMisspelled at number relation tid → ⊥
-  none_misspelled tid is = let of = body_tuple small shows number its tid is.has.rest is.has.there in is.not (tuple_bytes of.values) of.bytes (of.values, of.spells) (shows.tids relation.name tid (ap is_some of.there)).slot
+  none_misspelled tid is = let of = body_tuple small shows number its tid is.has.rest is.has.there in is.not (tuple_bytes (kinds relation.fields) of.values) of.bytes (of.values, of.spells) (shows.tids relation.name tid (ap is_some of.there)).slot
 
   few_of : (which : List ℕ) (entries : List (List ℕ × Tid)) → Each (λ pair. IsKeyAt at number relation which pair.1 pair.0) entries → Pairwise (λ a b. a.1 ≢ b.1) entries → length entries ≤ relation.live
   few_of which entries each apart =
@@ -115,11 +115,11 @@ module _ {at : AccessView} (small : at.pages.slots < 2 ^ 32) {tables : Tables} (
     in_gathered pair is =
         let of = kept_tuple small shows number its image within pair is in
         let stands = shows.contents.stands number relation pair.1 of.0 its of.1 in
-        let found = of_map (λ (p : List ℕ × Tid). p.1) entries pair.1 (so.all pair.1 (record { rest = prefix_of at.catalog.listing tables.contents number pair.1 ++ tuple_bytes of.0; there = stands })) in
+        let found = of_map (λ (p : List ℕ × Tid). p.1) entries pair.1 (so.all pair.1 (record { rest = prefix_of at.catalog.listing tables.contents number pair.1 ++ tuple_bytes (fields_at at.catalog.listing number) of.0; there = stands })) in
         let key = each_in (λ (p : List ℕ × Tid). IsKeyAt at number relation (field_numbers image) p.1 p.0) entries so.each found.0 found.1 in
         let fits = (shown small shows number its image within).tuples pair.1 of.0 of.1 in
         let body : number ∷ key.has.rest ≡ body_of at.catalog.listing tables.contents number pair.1 of.0 = same_Some _ _ (sym key.has.there ∙ ap (body_at at.pages relation.segment) found.2 ∙ stands) in
-        let bytes : key.bytes ≡ tuple_bytes of.0 = one_bytes (subst (λ (b : List ℕ). HoldsBytes at.catalog.listing number b key.bytes) body key.holds) (body_holds at.catalog.listing tables.contents number pair.1 of.0) in
+        let bytes : key.bytes ≡ tuple_bytes (kinds relation.fields) of.0 = one_bytes (subst (λ (b : List ℕ). HoldsBytes at.catalog.listing number b key.bytes) body key.holds) (body_holds at.catalog.listing tables.contents number relation its pair.1 of.0) in
         let keys = key.is of.0 (record { fit = fits.fit; storable = fits.storable; same = bytes }) in
         subst (λ (p : List ℕ × Tid). In p entries) ((λ i. (keys i, found.2 i)) ∙ of.2) found.1
 

@@ -12,8 +12,9 @@ use Rattle.rss_levels.proofs.Lists.{each_append, each_weaker, pairwise_append}
 use Rattle.rss_node.specs.Pairs.{IsSpelledTid}
 use Rattle.rss_catalog.specs.Catalogs.{CatalogView}
 use Rattle.rss_model.proofs.Mixing.{In}
-use Rattle.rss_tuple.specs.Finding.{IsAfter, IsNext}
-use Rattle.rss_tuple.specs.TupleSteps.{IsBelow, IsLeast, NoneIs, tuples_in}
+use Rattle.rss_tuple.specs.Finding.{IsNext}
+use Rattle.rss_base.specs.Tids.{IsBelow, IsAfter}
+use Rattle.rss_tuple.specs.TupleSteps.{IsLeast, NoneIs, tuples_in}
 use Rattle.rss_access.specs.Changes.{both}
 use Rattle.rss_access.specs.Filling.{HasBody, IsKeyAt, IsMisspelled, IsEntryLong, keys_by}
 use Rattle.rss_access.specs.Tuples.{FindsBody}

@@ -19,10 +19,10 @@ use Rattle.rss_image.specs.Emptied.{Gives}
 use Rattle.rss_image.specs.Images.{DestroysImage, nodes_of as image_nodes, pages_of}
 use Rattle.rss_model.specs.Tables.{Tables}
 use Rattle.rss_model.specs.Defining.{with_definitions}
-use Rattle.rss_model.specs.Store.{AreNodesWithin, IsListedImage, SpellsImage, SpellsTables, nodes_of}
-use Rattle.rss_model.proofs.ImageMade.{image_gone_spells}
+use Rattle.rss_stored.specs.Store.{AreNodesWithin, IsListedImage, SpellsImage, SpellsTables, nodes_of}
+use Rattle.rss_stored.proofs.ImageMade.{image_gone_spells}
 use Rattle.rss_model.proofs.LogLists.{by_same}
-use Rattle.rss_model.proofs.Relisted.{number_set, number_kept, number_within_list}
+use Rattle.rss_stored.proofs.Relisted.{number_set, number_kept, number_within_list}
 use Rattle.rss_entries.specs.Images.{image_of}
 use Rattle.rss_entries.proofs.Fitting.{fitting_nodes}
 use Rattle.rss_entries.proofs.LostImage.{loses_image}

@@ -18,7 +18,7 @@ use Rattle.rss_base.specs.declared.field.FieldDef.{FieldDef}
 use Rattle.rss_base.specs.declared.image.ImageEntry.{ImageEntry}
 use Rattle.rss_base.specs.declared.item.Item.TheVariants.{Tuple as TupleItem}
 use Rattle.rss_base.specs.declared.relation.RelationEntry.{RelationEntry}
-use Rattle.rss_base.specs.declared.value.FieldKind.{FieldKind}
+use Rattle.rss_base.specs.declared.value.FieldForm.{FieldForm}
 use Rattle.rss_base.specs.declared.value.Value.{Value}
 use Rattle.rss_catalog.specs.Catalogs.{CatalogView}
 use Rattle.rss_catalog.proofs.Numbered.{numbered_map}
@@ -26,9 +26,9 @@ use Rattle.rss_image.specs.Images.{nodes_of}
 use Rattle.rss_image.specs.declared.image.Image.{Image}
 use Rattle.rss_model.specs.Items.{Values}
 use Rattle.rss_model.specs.Tables.{Tables, content}
-use Rattle.rss_model.specs.Store.{IsListedImage, SpellsImages}
+use Rattle.rss_stored.specs.Store.{IsListedImage, SpellsImages}
 use Rattle.rss_model.specs.Meanings.{rootless}
-use Rattle.rss_model.proofs.Spelled.{tuple_bytes_same}
+use Rattle.rss_stored.proofs.Spelled.{tuple_bytes_same}
 use Rattle.rss_entries.specs.Keyed.{IsOneKey, StaysEntry}
 use Rattle.rss_entries.specs.Moving.{KeyKinds, AreSpelled, MayMove, MovesEntry, MakesEntry}
 use Rattle.rss_entries.specs.Images.{TupleMove, CanMove, after_move, image_of, key_of}
@@ -65,13 +65,13 @@ held_low pages slots few same holds allowed key there =
 -- ---- values and the bytes that tell them
 
 -- values that fit and can be spelled
-record AreFit (fields : List FieldKind) (values : Option (List Value)) : Type 0 where
+record AreFit (fields : List FieldForm) (values : Option (List Value)) : Type 0 where
   fit : IfSome values (λ v. misfit fields v ≡ None)
   storable : IfSome values (All IsStorable)
 
-module _ (fields : List FieldKind) where
+module _ (fields : List FieldForm) where
   -- bytes are those of one tuple
-  same_values : (bytes : Option (Bor (List ℕ))) (values others : Option (List Value)) → values_lent bytes ≡ option_map tuple_bytes values → AreFit fields values → AreSpelled fields (option_copied bytes) others → others ≡ values
+  same_values : (bytes : Option (Bor (List ℕ))) (values others : Option (List Value)) → values_lent bytes ≡ option_map (tuple_bytes fields) values → AreFit fields values → AreSpelled fields (option_copied bytes) others → others ≡ values
   same_values None None None is fit spelled = refl
   same_values None None (Some others) is fit spelled = absurd spelled
   same_values None (Some values) others is fit spelled = absurd (cc)
@@ -80,7 +80,7 @@ module _ (fields : List FieldKind) where
   same_values (Some b) (Some values) (Some others) is fit spelled =
       ap Some (tuple_bytes_same 1 fields others values spelled.fit fit.fit spelled.storable fit.storable (sym spelled.same ∙ same_Some _ _ is))
 
-  are_spelled : (bytes : Option (Bor (List ℕ))) (values : Option (List Value)) → values_lent bytes ≡ option_map tuple_bytes values → AreFit fields values → AreSpelled fields (option_copied bytes) values
+  are_spelled : (bytes : Option (Bor (List ℕ))) (values : Option (List Value)) → values_lent bytes ≡ option_map (tuple_bytes fields) values → AreFit fields values → AreSpelled fields (option_copied bytes) values
   are_spelled None None is fit = tt
   are_spelled None (Some values) is fit = absurd (cc)
   are_spelled (Some b) None is fit = absurd (cc)
@@ -99,7 +99,7 @@ module _ {listing : Listing} {move : TupleMove} {tables : Tables} (can : CanMove
           let of = can.tuples move.relation.name move.tid (Values values) there in
           let fields : of.fields ≡ kinds move.relation.fields = same_Some _ _ (sym of.defined ∙ fields_listed tables can.fits can.defines move.number move.relation can.listed) in
           record {
-            fit = ap (λ (f : List FieldKind). misfit f values) (sym fields) ∙ ap (misfit of.fields) (held_same values of.values of.tuple) ∙ of.fit;
+            fit = ap (λ (f : List FieldForm). misfit f values) (sym fields) ∙ ap (misfit of.fields) (held_same values of.values of.tuple) ∙ of.fit;
             storable = can.storable move.relation.name move.tid values there;
           }
         where
@@ -197,17 +197,17 @@ module _ {k : ℕ} {catalog : CatalogView} {image : ImageEntry} {relation : Rela
   image_same : passed ≡ image_of k image move.relation
   image_same = passes.image_is ∙ ap (image_of k image) one_relation
 
-  was_told : values_lent was ≡ option_map tuple_bytes move.was
+  was_told : values_lent was ≡ option_map (tuple_bytes (kinds move.relation.fields)) move.was
   was_told = sym lends.before ∙ shows.tells.before
 
-  next_told : values_lent next ≡ option_map tuple_bytes move.next
+  next_told : values_lent next ≡ option_map (tuple_bytes (kinds move.relation.fields)) move.next
   next_told = sym lends.after ∙ shows.tells.after
 
   -- the values that the bytes spell are those of the tuple
   pub may_be_moved : ((key : PageKey) → is_some (old.held key) ≡ old.mapped key) → (values : Option (List Value)) → AreSpelled key.fields (option_copied was) values
       → MayMove key tid values passed old
   may_be_moved holds values spelled =
-      let same : values ≡ move.was = same_values (kinds move.relation.fields) was move.was values was_told (old_fit shows.can) (subst (λ (f : List FieldKind). AreSpelled f (option_copied was) values) kinds_same spelled) in
+      let same : values ≡ move.was = same_values (kinds move.relation.fields) was move.was values was_told (old_fit shows.can) (subst (λ (f : List FieldForm). AreSpelled f (option_copied was) values) kinds_same spelled) in
       subst (λ (v : Option (List Value)). MayMove key tid v passed old) (sym same)
       (subst (λ (k : KeyKinds). MayMove k tid move.was passed old) (sym key_same)
       (subst (λ (t : Tid). MayMove (key_of image move.relation) t move.was passed old) (sym tid_same)
@@ -223,8 +223,8 @@ module _ {k : ℕ} {catalog : CatalogView} {image : ImageEntry} {relation : Rela
       (subst (λ (t : Tid). P (key_of image move.relation) t move.was move.next passed) tid_same
       (subst (λ (k : KeyKinds). P k tid move.was move.next passed) key_same
       (all move.was move.next
-      (subst (λ (f : List FieldKind). AreSpelled f (option_copied was) move.was) (sym kinds_same) (are_spelled (kinds move.relation.fields) was move.was was_told (old_fit shows.can)))
-      (subst (λ (f : List FieldKind). AreSpelled f (option_copied next) move.next) (sym kinds_same) (are_spelled (kinds move.relation.fields) next move.next next_told (new_fit shows.can))))))
+      (subst (λ (f : List FieldForm). AreSpelled f (option_copied was) move.was) (sym kinds_same) (are_spelled (kinds move.relation.fields) was move.was was_told (old_fit shows.can)))
+      (subst (λ (f : List FieldForm). AreSpelled f (option_copied next) move.next) (sym kinds_same) (are_spelled (kinds move.relation.fields) next move.next next_told (new_fit shows.can))))))
 
   module _ (disk : IsTold old.disk) {new : PagesView} (new_low : AreLow new.held) (counted : AreCounted old) (new_counted : AreCounted new) {asks outs : ℕ} (step : PagesStep (pages_in passed.segment ImageSpace) asks outs old new)
       (after : Image) (nodes : nodes_of after ≡ nodes_of passed)

@@ -17,7 +17,7 @@ use Rattle.rss_base.specs.declared.image.ImageEntry.{ImageEntry}
 use Rattle.rss_base.specs.declared.refusal.Kind.TheVariants.{Image as ImageKind}
 use Rattle.rss_base.specs.declared.relation.RelationEntry.{RelationEntry}
 use Rattle.rss_base.specs.declared.tid.Tid.{Tid}
-use Rattle.rss_base.specs.declared.value.FieldKind.{FieldKind}
+use Rattle.rss_base.specs.declared.value.FieldForm.{FieldForm}
 use Rattle.rss_base.proofs.Steps.{all_held}
 use Rattle.rss_value.specs.Numbers.{IsNumberOf}
 use Rattle.rss_levels.specs.Entries.{Each, IsIn}
@@ -31,10 +31,10 @@ use Rattle.rss_tuple.specs.Directory.{bodies_of}
 use Rattle.rss_catalog.specs.Catalogs.{CatalogView, Lists, page_of}
 use Rattle.rss_model.specs.Tables.{Tables}
 use Rattle.rss_model.specs.Defining.{with_definitions, with_image as with_image_def}
-use Rattle.rss_model.specs.Store.{AreNodesWithin, IsListedImage, IsReached, SpellsContents, SpellsTables, image_definition, nodes_of}
-use Rattle.rss_model.proofs.ImageMade.{HoldsNewImage, image_made_spells}
+use Rattle.rss_stored.specs.Store.{AreNodesWithin, IsListedImage, IsReached, SpellsContents, SpellsTables, image_definition, nodes_of}
+use Rattle.rss_stored.proofs.ImageMade.{HoldsNewImage, image_made_spells}
 use Rattle.rss_model.proofs.LogLists.{by_same}
-use Rattle.rss_model.proofs.Relisted.{number_set, number_kept}
+use Rattle.rss_stored.proofs.Relisted.{number_set, number_kept}
 use Rattle.rss_entries.specs.Building.{pair_list}
 use Rattle.rss_entries.specs.Images.{image_of}
 use Rattle.rss_entries.specs.Rooms.{width_of}
@@ -240,7 +240,7 @@ module _ {old : AccessView} {listed : CatalogView} {new : AccessView} {number : 
   bytes_good : {tables : Tables} (shows : ShowsTuples old tables) → Each (λ p. good p ≡ true) (byte_list tables entry relation)
   bytes_good {tables = tables} shows = each_of_in (λ p. good p ≡ true) (byte_list tables entry relation) (λ p is.
       let of = tuple_pair its_tuples p is in
-      let fields : List FieldKind = kinds (chosen (field_numbers entry) relation.fields) in
+      let fields : List FieldForm = kinds (chosen (field_numbers entry) relation.fields) in
       let key : List ℕ = key_bytes fields (chosen (field_numbers entry) of.values) in
       let spelled : IsSpelledTuple relation of.tid of.values = its_tuples.tuples of.tid of.values of.there in
       let long : length key ≡ width_of entry relation = length-key fields (chosen (field_numbers entry) of.values) key (key_fits entry relation of.tid of.values spelled) in

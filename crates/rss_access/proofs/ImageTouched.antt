@@ -25,7 +25,7 @@ use Rattle.rss_model.specs.Items.{name_cmp}
 use Rattle.rss_model.specs.Fits.{IsLive, IsIdentifier}
 use Rattle.rss_model.specs.Tables.{ImageDef, Tables}
 use Rattle.rss_model.specs.Defining.{with_definitions}
-use Rattle.rss_model.specs.Store.{SpellsTables, AreNodesWithin}
+use Rattle.rss_stored.specs.Store.{SpellsTables, AreNodesWithin}
 use Rattle.rss_entries.specs.Images.{AreTuples}
 use Rattle.rss_entries.proofs.Kept.{HoldsNode, one_image}
 use Rattle.rss_entries.proofs.NewImage.{TouchesImages, touches_images, others_counted}

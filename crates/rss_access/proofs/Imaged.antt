@@ -19,7 +19,7 @@ use Rattle.rss_entries.specs.Images.{with_tuple}
 use Rattle.rss_model.specs.Items.{Values}
 use Rattle.rss_model.specs.Images.{image_list}
 use Rattle.rss_model.specs.Tables.{Tables}
-use Rattle.rss_model.specs.Store.{AreNodesWithin, IsListedImage, SpellsImage, SpellsImages, IsReached, nodes_of, image_definition, pair_spelled}
+use Rattle.rss_stored.specs.Store.{AreNodesWithin, IsListedImage, SpellsImage, SpellsImages, IsReached, nodes_of, image_definition, pair_spelled}
 use Rattle.rss_model.proofs.Contents.{content_elsewhere}
 use Rattle.rss_model.proofs.Putting.{same_parts}
 use Rattle.rss_model.proofs.SeenAlike.{entries_same}

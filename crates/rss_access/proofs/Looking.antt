@@ -17,7 +17,7 @@ use Rattle.rss_image.specs.declared.image.Image.{Image}
 use Rattle.rss_image.specs.Images.{HasImage}
 use Rattle.rss_model.specs.Tables.{Tables}
 use Rattle.rss_model.specs.Fits.{Fits, IsLive, IsIdentifier}
-use Rattle.rss_model.specs.Store.{SpellsTables, IsListedImage, image_definition}
+use Rattle.rss_stored.specs.Store.{SpellsTables, IsListedImage, image_definition}
 use Rattle.rss_entries.specs.Moving.{KeyKinds}
 use Rattle.rss_entries.specs.Rooms.{width_of}
 use Rattle.rss_entries.specs.Images.{AreTuples, image_of, key_of}

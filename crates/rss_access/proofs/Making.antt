@@ -35,14 +35,14 @@ use Rattle.rss_entries.specs.Rooms.{images_room, image_places, images_cost}
 use Rattle.rss_entries.specs.Images.{TupleMove, CanMove, after_move}
 use Rattle.rss_model.specs.Items.{Values, name_cmp}
 use Rattle.rss_model.specs.Tables.{Tables, tuple_count}
-use Rattle.rss_model.specs.Store.{SpellsTables, SpellsImages, AreNodesWithin, prefix_of}
+use Rattle.rss_stored.specs.Store.{SpellsTables, SpellsImages, AreNodesWithin, prefix_of}
 use Rattle.rss_model.proofs.Codes.{name_apart}
 use Rattle.rss_model.specs.Fits.{IsLive, IsIdentifier}
 use Rattle.rss_model.proofs.Contents.{content_elsewhere}
 use Rattle.rss_model.proofs.Counts.{counts_same}
 use Rattle.rss_model.proofs.LogLists.{some_of}
 use Rattle.rss_model.proofs.Putting.{same_parts}
-use Rattle.rss_model.proofs.Relisted.{number_of}
+use Rattle.rss_stored.proofs.Relisted.{number_of}
 use Rattle.rss_access.specs.declared.edit.Edit.{Edit}
 use Rattle.rss_access.specs.declared.edit.Edit.TheVariants.{Insert, Delete, Update}
 use Rattle.rss_access.specs.declared.edit.TupleChange.{TupleChange}

@@ -7,8 +7,9 @@ use Rattle.rss_base.specs.Paged.{Held}
 use Rattle.rss_base.specs.Steps.{PagesView, PagesStep, no_page}
 use Rattle.rss_base.specs.declared.tid.Tid.{Tid}
 use Rattle.rss_base.proofs.Steps.{rests, then, all_held}
-use Rattle.rss_tuple.specs.Finding.{IsAfter, IsNext}
-use Rattle.rss_tuple.specs.TupleSteps.{IsBelow, IsLeast, NoneIs, tuples_in}
+use Rattle.rss_tuple.specs.Finding.{IsNext}
+use Rattle.rss_base.specs.Tids.{IsBelow, IsAfter}
+use Rattle.rss_tuple.specs.TupleSteps.{IsLeast, NoneIs, tuples_in}
 use Rattle.rss_access.specs.Tuples.{body_at, FindsBody, IsNextOf, IsNextBody}
 
 -- ---- the order of identifiers

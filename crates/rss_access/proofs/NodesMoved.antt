@@ -10,7 +10,7 @@ use Rattle.rss_base.specs.TupleTypes.{kinds, chosen, key_bytes, misfit, IsStorab
 use Rattle.rss_base.specs.Listings.{Listing, field_numbers, with_image, with_root}
 use Rattle.rss_base.specs.declared.image.ImageEntry.{ImageEntry}
 use Rattle.rss_base.specs.declared.key.Space.TheVariants.{Image as ImageSpace}
-use Rattle.rss_base.specs.declared.value.FieldKind.{FieldKind}
+use Rattle.rss_base.specs.declared.value.FieldForm.{FieldForm}
 use Rattle.rss_base.specs.declared.value.Value.{Value}
 use Rattle.rss_levels.specs.Entries.{zeros}
 use Rattle.rss_levels.specs.Spots.{AreMade}
@@ -22,7 +22,7 @@ use Rattle.rss_image.specs.declared.image.Image.{Image}
 use Rattle.rss_image.proofs.Kept.{page_pair}
 use Rattle.rss_image.proofs.Laid.{zeros_page}
 use Rattle.rss_model.specs.Tables.{Tables}
-use Rattle.rss_model.specs.Store.{AreNodesWithin, IsListedImage, nodes_of}
+use Rattle.rss_stored.specs.Store.{AreNodesWithin, IsListedImage, nodes_of}
 use Rattle.rss_entries.specs.Rooms.{width_of}
 use Rattle.rss_entries.specs.Moving.{MovesEntry, MakesEntry, pair_with}
 use Rattle.rss_entries.specs.Images.{TupleMove, CanMove, ShowBelow, image_of, key_of}
@@ -56,7 +56,7 @@ module _ {listing : Listing} {tables : Tables} (move : TupleMove) (can : CanMove
   good_pair : (values : List Value) → misfit (kinds move.relation.fields) values ≡ None → All IsStorable values → is_good (pair_with (key_of image move.relation) move.tid values) ≡ true
   good_pair values fits storable =
       let spelled : IsSpelledTuple move.relation move.tid values = record { fit = fits; storable = storable; spelled = can.tid } in
-      let fields : List FieldKind = kinds (chosen (field_numbers image) move.relation.fields) in
+      let fields : List FieldForm = kinds (chosen (field_numbers image) move.relation.fields) in
       let long = length-key fields (chosen (field_numbers image) values) (key_bytes fields (chosen (field_numbers image) values)) (key_fits image move.relation move.tid values spelled) in
       ap is_good (sym (pair_is image move.relation move.tid values))
       ∙ page_pair (width_of image move.relation) slots (key_bytes fields (chosen (field_numbers image) values)) move.tid long can.tid named

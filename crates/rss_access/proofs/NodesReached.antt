@@ -13,7 +13,7 @@ use Rattle.rss_node.specs.Nodes.{AreNodes}
 use Rattle.rss_image.specs.Images.{nodes_of as image_nodes, pages_of}
 use Rattle.rss_image.proofs.Putting.{spell_one}
 use Rattle.rss_model.specs.Tables.{Tables}
-use Rattle.rss_model.specs.Store.{IsListedImage, IsReached, SpellsImage, SpellsImages, nodes_of}
+use Rattle.rss_stored.specs.Store.{IsListedImage, IsReached, SpellsImage, SpellsImages, nodes_of}
 use Rattle.rss_entries.specs.Images.{image_of}
 use Rattle.rss_entries.proofs.Fitting.{fitting_nodes}
 use Rattle.rss_entries.proofs.Kept.{HoldsNode, image_node, one_image}

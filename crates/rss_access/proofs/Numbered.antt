@@ -11,9 +11,9 @@ use Rattle.rss_base.specs.declared.link.LinkEntry.{LinkEntry}
 use Rattle.rss_base.specs.declared.relation.RelationEntry.{RelationEntry}
 use Rattle.rss_base.specs.declared.refusal.Kind.TheVariants.{Relation as RelationKind}
 use Rattle.rss_model.specs.Tables.{RelationDef, Definitions, Tables, fields_of}
-use Rattle.rss_model.specs.Store.{Defines, HasNumber, definition_of, image_definition, link_definition, relation_name}
-use Rattle.rss_model.proofs.Listed.{at_place, listed}
-use Rattle.rss_model.proofs.Relisted.{number_within_list, number_set, number_kept, number_of}
+use Rattle.rss_stored.specs.Store.{Defines, HasNumber, definition_of, image_definition, link_definition, relation_name}
+use Rattle.rss_stored.proofs.Listed.{at_place, listed}
+use Rattle.rss_stored.proofs.Relisted.{number_within_list, number_set, number_kept, number_of}
 
 -- ---- the relation of a number
 
@@ -83,7 +83,7 @@ module _ (listing : Listing) (number live : ℕ) (entry : RelationEntry) (at : r
   ]
 
   link_kept : (link : LinkEntry) (child : RelationEntry) → link_definition listing link child ≡ link_definition counted_listing link child
-  link_kept link child = λ i. record { parent = option_and_then (λ k. sym (name_kept k) i) link.parent; child = child.name }
+  link_kept link child = λ i. record { parent = option_and_then (λ k. sym (name_kept k) i) link.parent; child = child.name; late = link.late }
 
   -- the same is defined
   pub counted_defines : {definitions : Definitions} → Defines listing definitions → Defines counted_listing definitions

@@ -1,12 +1,12 @@
 -- Listings in which one relation has another count, and the tuples and pages that they say of.
-use Rattle.std.proofs.Common.{◌≡◌, ◌≢◌, ◌⊎◌, inl, inr, ℕ, zero, suc, ◌+◌, ◌-◌, ◌*◌, ◌/◌, ◌<◌, ◌≤◌, Bool, true, false, cond, ◌&&◌, ◌==◌, List, ◌∷◌, ◌++◌, length, take, drop, get_or, refl, sym, ◌∙◌, ap, subst, arith, rules}
-use Rattle.std.specs.Prelude.{Option, Some, None, is_some, option_map, All, IfSome, slice_set, flat_map, nat_le}
+use Rattle.std.proofs.Common.{◌≡◌, ◌≢◌, ◌⊎◌, inl, inr, ℕ, zero, suc, ◌+◌, ◌-◌, ◌*◌, ◌/◌, ◌<◌, ◌≤◌, Bool, true, false, cond, ◌&&◌, ◌==◌, List, ◌∷◌, ◌++◌, length, take, drop, get_or, refl, sym, ◌∙◌, ap, subst, arith, rules, []}
+use Rattle.std.specs.Prelude.{Option, Some, None, is_some, option_map, All, IfSome, slice_set, flat_map, nat_le, unwrap_or}
 use Rattle.std.specs.Ordering.{eq_by_cmp}
 use Rattle.std.proofs.lemmas.Bool.{cases_Bool, cases_eq, cases_lt, cond-true, cond-false, and_parts, and_from, eqb-true, eq-eqb, true≢false}
 use Rattle.std.proofs.lemmas.List.{get_or-set_same, get_or-set_other, take-set-le, drop-set-lt, drop-set-add}
 use Rattle.std.proofs.lemmas.Option.{none-some, same_Some}
 use Rattle.rss_base.specs.Sizes.{system_pages}
-use Rattle.rss_base.specs.TupleTypes.{tuple_bytes, IsStorable}
+use Rattle.rss_base.specs.TupleTypes.{kinds, tuple_bytes, IsStorable}
 use Rattle.rss_base.specs.Prefixes.{first_of, last_of}
 use Rattle.rss_base.specs.Listings.{Listing, AreListedOnce, numbered, relation_at, with_relation, with_count, segment_spelled, relation_spelled, relations_on, catalog_page, padded, image_spelled, images_on, link_spelled, relation_pages, image_pages}
 use Rattle.rss_base.specs.declared.name.Name.{Name}
@@ -21,13 +21,15 @@ use Rattle.rss_catalog.specs.Catalogs.{CatalogView, Lists, page_of}
 use Rattle.rss_tuple.specs.Directory.{Bodies, with_body, is_same_tid}
 use Rattle.rss_model.specs.Items.{Values, item_cmp}
 use Rattle.rss_model.specs.Tables.{Contents, content, put}
-use Rattle.rss_model.specs.Store.{AreEnds, IsTupleBody, IsTupleItem, IsChainItem, SpellsContents, listed_block, prefix_of, body_of}
+use Rattle.rss_stored.specs.Store.{AreEnds, IsTupleBody, IsTupleItem, IsChainItem, SpellsContents, fields_at, listed_block, prefix_of, body_of}
 use Rattle.rss_model.proofs.Codes.{item_total, item_apart}
-use Rattle.rss_model.proofs.Prefixes.{chain_kept, body_kept}
+use Rattle.rss_stored.proofs.Listed.{fields_at_is}
+use Rattle.rss_stored.proofs.Prefixes.{chain_kept, body_kept}
 use Rattle.rss_model.proofs.Contents.{tied, content_here, content_elsewhere, same_item_of}
 use Rattle.rss_model.proofs.Putting.{same_parts}
-use Rattle.rss_model.proofs.Relisted.{number_of}
+use Rattle.rss_stored.proofs.Relisted.{number_of}
 use Rattle.rss_access.proofs.Prefixed.{spelled_with, first_same}
+use Rattle.rss_base.specs.declared.value.FieldForm.{FieldForm}
 
 -- The relation of this number has another count, or the same, and all else is listed as it was.
 pub record Recounts (number : ℕ) (relation : RelationEntry) (old new : Listing) : Type 0 where
@@ -66,9 +68,9 @@ next_values : (next : Option (List Value)) (values : List Value) → option_map 
 next_values None values is = absurd (cc)
 next_values (Some others) values is = cc
 
-next_body : (number : ℕ) (prefix : List ℕ) (next : Option (List Value)) (body : List ℕ) → option_map (spelled_with number prefix) next ≡ Some body → (values : List Value) × (next ≡ Some values) × (body ≡ spelled_with number prefix values)
-next_body number prefix None body is = absurd (cc)
-next_body number prefix (Some values) body is = (values, refl, sym (same_Some _ _ is))
+next_body : (fields : List FieldForm) (number : ℕ) (prefix : List ℕ) (next : Option (List Value)) (body : List ℕ) → option_map (spelled_with fields number prefix) next ≡ Some body → (values : List Value) × (next ≡ Some values) × (body ≡ spelled_with fields number prefix values)
+next_body fields number prefix None body is = absurd (cc)
+next_body fields number prefix (Some values) body is = (values, refl, sym (same_Some _ _ is))
 
 pub same_or_other : (a b : Item) → (a ≡ b) ⊎ (a ≢ b)
 same_or_other a b = elim (cases_Bool (eq_by_cmp item_cmp a b)) [
@@ -97,6 +99,15 @@ module _ {listing relisted : Listing} {number : ℕ} {relation : RelationEntry} 
     | inr other ↦ record { still = entry; at_still = recounts.others k other ∙ was; named = refl; within_still = refl }
   ]
 
+  -- and the same fields
+  fields_still : (k : ℕ) → fields_at relisted k ≡ fields_at listing k
+  fields_still k = elim (cases_eq k number) [
+    | inl same ↦
+        ap (fields_at relisted) same ∙ fields_at_is relisted number (with_count recounts.live relation) recounts.here
+        ∙ sym (fields_at_is listing number relation at) ∙ ap (fields_at listing) (sym same)
+    | inr other ↦ ap (λ (entry : Option RelationEntry). unwrap_or (option_map (λ (r : RelationEntry). kinds r.fields) entry) []) (recounts.others k other)
+  ]
+
   -- a relation of the same name has the same number
   one_number : (k : ℕ) (entry : RelationEntry) → relation_at listing k ≡ Some entry → entry.name ≡ relation.name → k ≡ number
   one_number k entry was same = once k number relation.name (number_of listing k entry was ∙ ap Some same) (number_of listing number relation at)
@@ -106,17 +117,17 @@ module _ {listing relisted : Listing} {number : ℕ} {relation : RelationEntry} 
     after = put contents (TupleItem relation.name tid) (option_map Values next)
 
     abbrev bodies_after : Bodies
-    bodies_after = with_body bodies relation.segment tid (option_map (spelled_with number prefix) next)
+    bodies_after = with_body bodies relation.segment tid (option_map (spelled_with (kinds relation.fields) number prefix) next)
 
     -- prefixes are what they were
     body_still : (k : ℕ) (u : Tid) (values : List Value) → body_of relisted after k u values ≡ body_of listing contents k u values
     body_still k u values =
-        ap (λ (links : List (Option LinkEntry)). k ∷ (flat_map (listed_block after k u) links ++ tuple_bytes values)) recounts.links
+        (λ i. k ∷ (flat_map (listed_block after k u) (recounts.links i) ++ tuple_bytes (fields_still k i) values))
         ∙ body_kept contents relation.name tid (option_map Values next) listing k u values
 
     -- such is the body of the tuple itself
-    own_body : (values : List Value) → spelled_with number prefix values ≡ body_of listing contents number tid values
-    own_body values = ap (λ (p : List ℕ). spelled_with number p values) (sym mine)
+    own_body : (values : List Value) → spelled_with (kinds relation.fields) number prefix values ≡ body_of listing contents number tid values
+    own_body values = λ i. number ∷ (sym mine i ++ tuple_bytes (sym (fields_at_is listing number relation at) i) values)
 
     held_now : content after (TupleItem relation.name tid) ≡ option_map Values next
     held_now = content_here contents (TupleItem relation.name tid) (option_map Values next)
@@ -135,11 +146,11 @@ module _ {listing relisted : Listing} {number : ℕ} {relation : RelationEntry} 
     stands_here u values holds = elim (here_or_off relation.segment relation.segment u tid) [
       | inl here ↦
           let now : next ≡ Some values = next_values next values (sym held_now ∙ ap (λ (v : Tid). content after (TupleItem relation.name v)) (sym here.1) ∙ holds) in
-          ap (bodies_after relation.segment) here.1 ∙ with_here bodies relation.segment tid (option_map (spelled_with number prefix) next) ∙ ap (option_map (spelled_with number prefix)) now
+          ap (bodies_after relation.segment) here.1 ∙ with_here bodies relation.segment tid (option_map (spelled_with (kinds relation.fields) number prefix) next) ∙ ap (option_map (spelled_with (kinds relation.fields) number prefix)) now
           ∙ ap Some (own_body values) ∙ ap (λ (v : Tid). Some (body_of listing contents number v values)) (sym here.1)
       | inr off ↦
           let other : TupleItem relation.name u ≢ TupleItem relation.name tid = λ same. not_same u off (same_parts relation.name relation.name u tid same).1 in
-          with_off bodies relation.segment tid (option_map (spelled_with number prefix) next) relation.segment u off
+          with_off bodies relation.segment tid (option_map (spelled_with (kinds relation.fields) number prefix) next) relation.segment u off
           ∙ old.stands number relation u values at (sym (content_elsewhere contents (TupleItem relation.name tid) (option_map Values next) (TupleItem relation.name u) other) ∙ holds)
     ]
       where
@@ -152,7 +163,7 @@ module _ {listing relisted : Listing} {number : ℕ} {relation : RelationEntry} 
         let stands : bodies entry.segment u ≡ Some (body_of listing contents k u values) = old.stands k entry u values there (sym (content_elsewhere contents (TupleItem relation.name tid) (option_map Values next) (TupleItem entry.name u) off) ∙ holds) in
         elim (here_or_off entry.segment relation.segment u tid) [
           | inl here ↦ absurd (other (alone k values ((λ i. bodies (sym here.0 i) (sym here.1 i)) ∙ stands ∙ ap (λ (v : Tid). Some (body_of listing contents k v values)) here.1)))
-          | inr apart ↦ with_off bodies relation.segment tid (option_map (spelled_with number prefix) next) entry.segment u apart ∙ stands
+          | inr apart ↦ with_off bodies relation.segment tid (option_map (spelled_with (kinds relation.fields) number prefix) next) entry.segment u apart ∙ stands
         ]
 
     stands_after : (k : ℕ) (entry : RelationEntry) (u : Tid) (values : List Value) → relation_at relisted k ≡ Some entry → content after (TupleItem entry.name u) ≡ Some (Values values) → bodies_after entry.segment u ≡ Some (body_of relisted after k u values)
@@ -167,9 +178,9 @@ module _ {listing relisted : Listing} {number : ℕ} {relation : RelationEntry} 
           | inr other ↦ stands_other k entry u values other (sym (recounts.others k other) ∙ there) holds
         ]
 
-    body_here : (segment : ℕ) (u : Tid) (body : List ℕ) → segment ≡ relation.segment → u ≡ tid → option_map (spelled_with number prefix) next ≡ Some body → IsTupleBody relisted after segment u body
+    body_here : (segment : ℕ) (u : Tid) (body : List ℕ) → segment ≡ relation.segment → u ≡ tid → option_map (spelled_with (kinds relation.fields) number prefix) next ≡ Some body → IsTupleBody relisted after segment u body
     body_here segment u body in_it same is =
-        let values = next_body number prefix next body is in
+        let values = next_body (kinds relation.fields) number prefix next body is in
         record {
           number = number;
           relation = with_count recounts.live relation;
@@ -225,8 +236,8 @@ module _ {listing relisted : Listing} {number : ℕ} {relation : RelationEntry} 
     contents_changed = record {
       stands = stands_after;
       bodies_are = λ segment u body stands. elim (here_or_off segment relation.segment u tid) [
-        | inl here ↦ body_here segment u body here.0 here.1 (sym ((λ i. bodies_after (here.0 i) (here.1 i)) ∙ with_here bodies relation.segment tid (option_map (spelled_with number prefix) next)) ∙ stands)
-        | inr off ↦ body_other segment u body off (sym (with_off bodies relation.segment tid (option_map (spelled_with number prefix) next) segment u off) ∙ stands)
+        | inl here ↦ body_here segment u body here.0 here.1 (sym ((λ i. bodies_after (here.0 i) (here.1 i)) ∙ with_here bodies relation.segment tid (option_map (spelled_with (kinds relation.fields) number prefix) next)) ∙ stands)
+        | inr off ↦ body_other segment u body off (sym (with_off bodies relation.segment tid (option_map (spelled_with (kinds relation.fields) number prefix) next) segment u off) ∙ stands)
       ];
       only = item_after;
       ends = ends_after;

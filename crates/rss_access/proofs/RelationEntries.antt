@@ -13,7 +13,7 @@ use Rattle.rss_base.specs.Listings.{relation_at, field_numbers}
 use Rattle.rss_base.specs.declared.name.Name.{Name}
 use Rattle.rss_base.specs.declared.tid.Tid.{Tid}
 use Rattle.rss_base.specs.declared.value.Value.{Value}
-use Rattle.rss_base.specs.declared.value.FieldKind.{FieldKind}
+use Rattle.rss_base.specs.declared.value.FieldForm.{FieldForm}
 use Rattle.rss_base.specs.declared.item.Item.TheVariants.{Tuple as TupleItem}
 use Rattle.rss_base.specs.declared.image.ImageEntry.{ImageEntry}
 use Rattle.rss_base.specs.declared.relation.RelationEntry.{RelationEntry}
@@ -23,11 +23,11 @@ use Rattle.rss_node.specs.Pairs.{pair_bytes}
 use Rattle.rss_model.specs.Items.{Content, Values}
 use Rattle.rss_model.specs.Tables.{RelationDef, Tables, content, fields_of, fields_in}
 use Rattle.rss_model.specs.Images.{Entry, entries_by, image_list, repeated, repeated_behind as repeated_entry}
-use Rattle.rss_model.specs.Store.{image_definition, pair_spelled}
+use Rattle.rss_stored.specs.Store.{image_definition, pair_spelled}
 use Rattle.rss_model.proofs.ImageCounts.{entries_counted}
-use Rattle.rss_model.proofs.ImageFields.{numbers_back, chosen_kinds}
+use Rattle.rss_stored.proofs.ImageFields.{numbers_back, chosen_kinds}
 use Rattle.rss_model.proofs.ImageLists.{listed as entry_listed}
-use Rattle.rss_model.proofs.Listed.{listed}
+use Rattle.rss_stored.proofs.Listed.{listed}
 use Rattle.rss_model.proofs.Mixing.{In}
 use Rattle.rss_model.proofs.Putting.{values_of}
 use Rattle.rss_value.proofs.KeyOrders.{keys_order}
@@ -74,8 +74,8 @@ module _ {at : AccessView} (small : at.pages.slots < 2 ^ 32) {tables : Tables} (
   -- The body that has this behind the relation's number is that of a tuple with these values.
   pub record IsTupleOf (tid : Tid) (rest : List ℕ) : Type 0 where
     pub values : List Value
-    pub bytes : HoldsBytes at.catalog.listing number (number ∷ rest) (tuple_bytes values)
-    pub spells : Spells (kinds relation.fields) (tuple_bytes values) values
+    pub bytes : HoldsBytes at.catalog.listing number (number ∷ rest) (tuple_bytes (kinds relation.fields) values)
+    pub spells : Spells (kinds relation.fields) (tuple_bytes (kinds relation.fields) values) values
     pub there : content tables.contents (TupleItem relation.name tid) ≡ Some (Values values)
 
   -- each body of the relation is a tuple's
@@ -121,7 +121,7 @@ module _ {at : AccessView} (small : at.pages.slots < 2 ^ 32) {tables : Tables} (
     kept = list_map (kept_pair image relation) entries
 
     kept_is : (tid : Tid) (values : List Value) → kept_pair image relation (entry_with image tid values) ≡ pair_of relation (field_numbers image) tid values
-    kept_is tid values = ap (λ (ks : List FieldKind). (key_bytes ks (chosen (field_numbers image) values), tid)) (sym (chosen_kinds (field_numbers image) relation.fields))
+    kept_is tid values = ap (λ (ks : List FieldForm). (key_bytes ks (chosen (field_numbers image) values), tid)) (sym (chosen_kinds (field_numbers image) relation.fields))
 
     pub kept_long : length kept ≡ relation.live
     kept_long = length-map entries (kept_pair image relation) ∙ entries_long names

@@ -9,7 +9,7 @@ use Rattle.rss_base.specs.declared.change.Change as told
 use Rattle.rss_base.specs.declared.change.Change.TheVariants.{Insert, Delete, Update, Connect, Disconnect}
 use Rattle.rss_catalog.specs.Catalogs.{CatalogView}
 use Rattle.rss_model.specs.Meanings.{endless, SameDefinitions}
-use Rattle.rss_model.proofs.Listed.{at_place}
+use Rattle.rss_stored.proofs.Listed.{at_place}
 use Rattle.rss_access.specs.Told.{IsTupleRecord, number_told, count_after}
 use Rattle.rss_access.specs.Relisted.{Recounted, Relists, counted_at, relations_after}
 use Rattle.rss_access.proofs.Numbered.{counted_or_old}

@@ -21,7 +21,7 @@ use Rattle.rss_value.proofs.Orders.{slice_cmp-append}
 use Rattle.rss_node.specs.Pairs.{pair_bytes, key_from, tid_from}
 use Rattle.rss_image.specs.Checking.{first_repeat}
 use Rattle.rss_model.specs.Images.{is_key, key_in}
-use Rattle.rss_model.specs.Store.{image_definition}
+use Rattle.rss_stored.specs.Store.{image_definition}
 use Rattle.rss_model.specs.Tables.{ImageDef, Tables, content}
 use Rattle.rss_model.specs.Items.{Values}
 use Rattle.rss_base.specs.declared.item.Item.TheVariants.{Tuple as TupleItem}

@@ -13,8 +13,8 @@ use Rattle.rss_base.specs.declared.refusal.Kind.TheVariants.{Relation as Relatio
 use Rattle.rss_catalog.specs.Catalogs.{CatalogView, Lists, page_of}
 use Rattle.rss_model.specs.Meanings.{rootless}
 use Rattle.rss_model.specs.Tables.{Definitions}
-use Rattle.rss_model.specs.Store.{Defines, image_definition}
-use Rattle.rss_model.proofs.Listed.{at_place}
+use Rattle.rss_stored.specs.Store.{Defines, image_definition}
+use Rattle.rss_stored.proofs.Listed.{at_place}
 use Rattle.rss_access.specs.Relisted.{KeepsSpelled, Rerooted, Recounted}
 use Rattle.rss_access.specs.Written.{HasImage}
 use Rattle.rss_access.proofs.Numbered.{counted_here, counted_else, counted_defines}

@@ -39,8 +39,8 @@ AreOf fields values = IfSome values (λ list. (misfit (kinds fields) list ≡ No
 pub record HasMove (fields : List FieldDef) (told_change : told.Change) : Type 0 where
   pub was : Option (List Value)
   pub next : Option (List Value)
-  pub before : values_before told_change ≡ option_map tuple_bytes was
-  pub after : values_after told_change ≡ option_map tuple_bytes next
+  pub before : values_before told_change ≡ option_map (tuple_bytes (kinds fields)) was
+  pub after : values_after told_change ≡ option_map (tuple_bytes (kinds fields)) next
   pub old : AreOf fields was
   pub new : AreOf fields next
 
@@ -102,11 +102,11 @@ module _ {at : AccessView} (told_change : told.Change) (relation : RelationEntry
 
   -- the tuple holds the old values in the tables
   holds : content has.tables.contents (TupleItem relation.name tid) ≡ option_map Values told_move.was
-  holds = by told_move.was (found ∙ bodies_told number prefix (values_before told_change) told_move.was told_move.before) told_move.old
+  holds = by told_move.was (found ∙ bodies_told (kinds relation.fields) number prefix (values_before told_change) told_move.was told_move.before) told_move.old
     where
-      by : (was : Option (List Value)) → body_at at.pages relation.segment tid ≡ option_map (spelled_with number prefix) was → AreOf relation.fields was → content has.tables.contents (TupleItem relation.name tid) ≡ option_map Values was
+      by : (was : Option (List Value)) → body_at at.pages relation.segment tid ≡ option_map (spelled_with (kinds relation.fields) number prefix) was → AreOf relation.fields was → content has.tables.contents (TupleItem relation.name tid) ≡ option_map Values was
       by None absent are = none_listed has.spells has.tuples number relation listed tid absent
-      by (Some list) stands are = tuple_found at.pages has.spells has.tuples number relation listed tid (spelled_with number prefix list) stands list (record { bytes = tuple_bytes list; holds = record { prefix = prefix; long = fitting.long; is = refl }; spelled = record { fit = are.0; storable = are.1; same = refl } })
+      by (Some list) stands are = tuple_found at.pages has.spells has.tuples number relation listed tid (spelled_with (kinds relation.fields) number prefix list) stands list (record { bytes = tuple_bytes (kinds relation.fields) list; holds = record { prefix = prefix; long = fitting.long; is = refl }; spelled = record { fit = are.0; storable = are.1; same = refl } })
 
   abbrev pub move : TupleMove
   move = record { number = number; relation = relation; tid = tid; was = told_move.was; next = told_move.next }

@@ -12,17 +12,17 @@ use Rattle.rss_base.specs.declared.tid.Tid.{Tid}
 use Rattle.rss_base.specs.declared.item.Item.TheVariants.{Tuple as TupleItem, Chain as ChainItem}
 use Rattle.rss_base.specs.declared.relation.RelationEntry.{RelationEntry}
 use Rattle.rss_base.specs.declared.value.Value.{Value}
-use Rattle.rss_base.specs.declared.value.FieldKind.{FieldKind}
+use Rattle.rss_base.specs.declared.value.FieldForm.{FieldForm}
 use Rattle.rss_tuple.specs.Directory.{bodies_of}
 use Rattle.rss_entries.specs.Images.{AreTuples}
 use Rattle.rss_model.specs.Items.{Content, Values}
 use Rattle.rss_model.specs.Tables.{RelationDef, Tables, content, segment_of}
 use Rattle.rss_model.specs.Fits.{Fits}
-use Rattle.rss_model.specs.Store.{SpellsTables, prefix_of, body_of}
-use Rattle.rss_model.proofs.Blocks.{prefix_long}
+use Rattle.rss_stored.specs.Store.{SpellsTables, fields_at, prefix_of, body_of}
+use Rattle.rss_stored.proofs.Blocks.{prefix_long}
 use Rattle.rss_model.proofs.Frees.{stands_defined}
-use Rattle.rss_model.proofs.Listed.{listed, number_within}
-use Rattle.rss_model.proofs.Spelled.{tuple_bytes_same, named_relation}
+use Rattle.rss_stored.proofs.Listed.{fields_at_is, listed, number_within}
+use Rattle.rss_stored.proofs.Spelled.{tuple_bytes_same, named_relation}
 use Rattle.rss_access.specs.Bodies.{IsBodyOf}
 use Rattle.rss_access.specs.Tuples.{body_at, FindsBody}
 use Rattle.rss_access.proofs.Bodied.{one_bytes}
@@ -79,7 +79,7 @@ module _ {held : Held} {listing : Listing} {tables : Tables} (spells : SpellsTab
       let so = listed spells.listed spells.defines number relation at in
       let defined = spells.defines.relations number relation so.0 so.1 in
       let fields : of.fields ≡ kinds relation.fields = same_Some _ _ (sym of.defined ∙ ap (option_map (λ (r : RelationDef). kinds r.fields)) defined) in
-      ap (λ (f : List FieldKind). misfit f values) (sym fields) ∙ ap (misfit of.fields) (same_values values of.values of.tuple) ∙ of.fit
+      ap (λ (f : List FieldForm). misfit f values) (sym fields) ∙ ap (misfit of.fields) (same_values values of.values of.tuple) ∙ of.fit
     where
       same_values : (a b : List Value) → Values a ≡ Values b → a ≡ b
       same_values a b same = cc
@@ -96,17 +96,17 @@ module _ (pages : PagesView) {listing : Listing} {tables : Tables} (spells : Spe
   values_found : (rest : List ℕ) → bytes ≡ number ∷ rest → body_at pages relation.segment tid ≡ Some bytes → HasValues pages listing tables number relation tid bytes
   values_found rest is stands =
       let of = spells.contents.bodies_are relation.segment tid bytes stands in
-      let parts = parts_of number of.number rest (prefix_of listing tables.contents of.number tid ++ tuple_bytes of.values) (sym is ∙ of.is) in
+      let parts = parts_of number of.number rest (prefix_of listing tables.contents of.number tid ++ tuple_bytes (fields_at listing of.number) of.values) (sym is ∙ of.is) in
       let one : of.relation ≡ relation = same_Some _ _ (sym of.at ∙ ap (relation_at listing) (sym parts.0) ∙ at) in
       let holds : content tables.contents (TupleItem relation.name tid) ≡ Some (Values of.values) = ap (λ (r : RelationEntry). content tables.contents (TupleItem r.name tid)) (sym one) ∙ of.holds in
       record {
         values = of.values;
         body = record {
-          bytes = tuple_bytes of.values;
+          bytes = tuple_bytes (kinds relation.fields) of.values;
           holds = record {
             prefix = prefix_of listing tables.contents of.number tid;
             long = prefix_long listing tables.contents of.number tid ∙ ap (prefix_size listing.links) (sym parts.0);
-            is = is ∙ ap (λ (b : List ℕ). number ∷ b) parts.1;
+            is = is ∙ ap (λ (b : List ℕ). number ∷ b) parts.1 ∙ ap (λ (fields : List FieldForm). number ∷ (prefix_of listing tables.contents of.number tid ++ tuple_bytes fields of.values)) (ap (fields_at listing) (sym parts.0) ∙ fields_at_is listing number relation at);
           };
           spelled = record { fit = fits_fields spells tuples number relation at tid of.values holds; storable = of.storable; same = refl };
         };
@@ -121,7 +121,7 @@ module _ (pages : PagesView) {listing : Listing} {tables : Tables} (spells : Spe
   pub tuple_found : body_at pages relation.segment tid ≡ Some bytes → (values : List Value) → IsBodyOf listing number (kinds relation.fields) values bytes → content tables.contents (TupleItem relation.name tid) ≡ Some (Values values)
   tuple_found stands values body =
       let has = values_found (body.holds.prefix ++ body.bytes) body.holds.is stands in
-      let bytes_same : tuple_bytes values ≡ tuple_bytes has.values = sym body.spelled.same ∙ one_bytes body.holds has.body.holds ∙ has.body.spelled.same in
+      let bytes_same : tuple_bytes (kinds relation.fields) values ≡ tuple_bytes (kinds relation.fields) has.values = sym body.spelled.same ∙ one_bytes body.holds has.body.holds ∙ has.body.spelled.same in
       has.holds ∙ ap (λ (v : List Value). Some (Values v)) (sym (tuple_bytes_same 1 (kinds relation.fields) values has.values body.spelled.fit has.body.spelled.fit body.spelled.storable has.body.spelled.storable bytes_same))
 
 module _ {pages : PagesView} {listing : Listing} {tables : Tables} {slots : ℕ} (spells : SpellsTables pages.held listing tables) (fit : Fits slots tables) (number : ℕ) (relation : RelationEntry) (at : relation_at listing number ≡ Some relation) (tid : Tid) (bytes : List ℕ) where
@@ -133,5 +133,5 @@ module _ {pages : PagesView} {listing : Listing} {tables : Tables} {slots : ℕ}
   pub found_none : FindsBody relation.segment number tid pages false bytes → content tables.contents (TupleItem relation.name tid) ≡ None
   found_none finds = elim (tuple_held fit.tuples relation.name tid (content tables.contents (TupleItem relation.name tid)) refl) [
     | inl none ↦ none
-    | inr some ↦ absurd (finds.none refl (prefix_of listing tables.contents number tid ++ tuple_bytes some.0) (spells.contents.stands number relation tid some.0 at some.1))
+    | inr some ↦ absurd (finds.none refl (prefix_of listing tables.contents number tid ++ tuple_bytes (fields_at listing number) some.0) (spells.contents.stands number relation tid some.0 at some.1))
   ]

@@ -21,15 +21,15 @@ use Rattle.rss_model.specs.Tables.{Contents, Tables, content, put, tuple_count, 
 use Rattle.rss_model.specs.Changes.{Change}
 use Rattle.rss_model.specs.Fits.{IsLive, IsIdentifier, Fits}
 use Rattle.rss_model.specs.Meanings.{IsChangeTold, Means, TellsValues, name_at, nameless, item_told}
-use Rattle.rss_model.specs.Store.{SpellsTables, prefix_of}
-use Rattle.rss_model.proofs.Blocks.{prefix_long}
-use Rattle.rss_model.proofs.Prefixes.{HaveSameChains, chains_kept, prefix_same}
+use Rattle.rss_stored.specs.Store.{SpellsTables, prefix_of}
+use Rattle.rss_stored.proofs.Blocks.{prefix_long}
+use Rattle.rss_stored.proofs.Prefixes.{HaveSameChains, chains_kept, prefix_same}
 use Rattle.rss_model.proofs.Codes.{name_total, name_apart}
 use Rattle.rss_model.proofs.Contents.{tied, content_here, content_elsewhere}
 use Rattle.rss_model.proofs.Counts.{one_if, counts_put}
-use Rattle.rss_model.proofs.Listed.{listed, stands_within}
+use Rattle.rss_stored.proofs.Listed.{listed, stands_within}
 use Rattle.rss_model.proofs.Putting.{same_parts}
-use Rattle.rss_model.proofs.Relisted.{number_of}
+use Rattle.rss_stored.proofs.Relisted.{number_of}
 use Rattle.rss_members.specs.declared.membership.Membership.{Membership}
 use Rattle.rss_members.specs.Calls.{NoneConnects, NoneDisconnects}
 use Rattle.rss_access.specs.Told.{IsTupleRecord, number_told, tid_told, values_before, values_after, body_before, IsPrefix, reversed, turned, ReverseMeans, AreValuesOf, MayBecome, MayCount}
@@ -40,6 +40,7 @@ use Rattle.rss_access.proofs.ChainTables.{chain_none, chain_none_off}
 use Rattle.rss_access.proofs.Prefixed.{spelled_with, bodies_told, blank_gone, prefix_few}
 use Rattle.rss_access.proofs.Spelling.{all_storable}
 use Rattle.rss_access.proofs.Within.{nodes_within}
+use Rattle.rss_access.proofs.Bodied.{body_is}
 
 -- ---- the change that is told
 
@@ -52,8 +53,8 @@ pub record Reads (listing : Listing) (told_change : told.Change) (change : Chang
   pub item : change.item ≡ TupleItem relation.name (tid_told told_change)
   pub old : change.old ≡ option_map Values was
   pub new : change.new ≡ option_map Values next
-  pub before : values_before told_change ≡ option_map tuple_bytes was
-  pub after : values_after told_change ≡ option_map tuple_bytes next
+  pub before : values_before told_change ≡ option_map (tuple_bytes (kinds relation.fields)) was
+  pub after : values_after told_change ≡ option_map (tuple_bytes (kinds relation.fields)) next
   pub fit : IfSome next (λ values. misfit (kinds relation.fields) values ≡ None)
   pub storable : IfSome next (All IsStorable)
   pub some : was ≡ None → next ≡ None → ⊥
@@ -65,8 +66,8 @@ named listing number relation at = ap (λ (name : Option Name). unwrap_or name (
 item_of : (listing : Listing) (number : ℕ) (tid : Tid) (relation : RelationEntry) {item : Item} → relation_at listing number ≡ Some relation → item ≡ TupleItem (name_at RelationKind listing number) tid → item ≡ TupleItem relation.name tid
 item_of listing number tid relation at is = is ∙ ap (λ (name : Name). TupleItem name tid) (named listing number relation at)
 
-bytes_are : {listing : Listing} {number : ℕ} {bytes : List ℕ} {held : Option Content} (tells : TellsValues listing number bytes held) → Some bytes ≡ Some (tuple_bytes tells.values)
-bytes_are tells = ap Some tells.spells.same
+bytes_are : {listing : Listing} {number : ℕ} {bytes : List ℕ} {held : Option Content} (tells : TellsValues listing number bytes held) (relation : RelationEntry) → relation_at listing number ≡ Some relation → Some bytes ≡ Some (tuple_bytes (kinds relation.fields) tells.values)
+bytes_are tells relation at = ap Some (tells.spells.same ∙ ap (λ (entry : RelationEntry). tuple_bytes (kinds entry.fields) tells.values) (same_Some _ _ (sym tells.at ∙ at)))
 
 -- the values fit the fields of the relation with this number
 fit_of : {listing : Listing} {number : ℕ} {bytes : List ℕ} {held : Option Content} (tells : TellsValues listing number bytes held) (relation : RelationEntry) → relation_at listing number ≡ Some relation → misfit (kinds relation.fields) tells.values ≡ None
@@ -75,14 +76,14 @@ fit_of tells relation at = subst (λ (entry : RelationEntry). misfit (kinds entr
 pub reads : {listing : Listing} (told_change : told.Change) (change : Change) → IsTupleRecord told_change → IsChangeTold listing change.by told_change change → Means listing told_change change → Reads listing told_change change
 reads {listing = listing} (Insert number tid values) change is tells means =
     let next = means.1 in
-    record { relation = next.relation; was = None; next = Some next.values; at = next.at; item = item_of listing number tid next.relation next.at tells.item; old = means.0; new = next.is; before = refl; after = bytes_are next; fit = next.spells.fit; storable = next.spells.storable; some = λ none never. absurd (cc) }
+    record { relation = next.relation; was = None; next = Some next.values; at = next.at; item = item_of listing number tid next.relation next.at tells.item; old = means.0; new = next.is; before = refl; after = bytes_are next next.relation next.at; fit = next.spells.fit; storable = next.spells.storable; some = λ none never. absurd (cc) }
 reads {listing = listing} (Delete number tid values) change is tells means =
     let was = means.0 in
-    record { relation = was.relation; was = Some was.values; next = None; at = was.at; item = item_of listing number tid was.relation was.at tells.item; old = was.is; new = means.1; before = bytes_are was; after = refl; fit = tt; storable = tt; some = λ none never. absurd (cc) }
+    record { relation = was.relation; was = Some was.values; next = None; at = was.at; item = item_of listing number tid was.relation was.at tells.item; old = was.is; new = means.1; before = bytes_are was was.relation was.at; after = refl; fit = tt; storable = tt; some = λ none never. absurd (cc) }
 reads {listing = listing} (Update number tid from to) change is tells means =
     let was = means.0 in
     let next = means.1 in
-    record { relation = was.relation; was = Some was.values; next = Some next.values; at = was.at; item = item_of listing number tid was.relation was.at tells.item; old = was.is; new = next.is; before = bytes_are was; after = bytes_are next; fit = fit_of next was.relation was.at; storable = next.spells.storable; some = λ none never. absurd (cc) }
+    record { relation = was.relation; was = Some was.values; next = Some next.values; at = was.at; item = item_of listing number tid was.relation was.at tells.item; old = was.is; new = next.is; before = bytes_are was was.relation was.at; after = bytes_are next was.relation was.at; fit = fit_of next was.relation was.at; storable = next.spells.storable; some = λ none never. absurd (cc) }
 reads (Connect link parent child left) change is tells means = absurd is
 reads (Disconnect link parent child left) change is tells means = absurd is
 
@@ -188,11 +189,11 @@ module _ {at : AccessView} {told_change : told.Change} {tables : Tables} {change
 
   -- the tuple is as the change finds it
   pub body_there : body_at at.pages r.relation.segment (tid_told told_change) ≡ body_before prefix told_change
-  body_there = by r.was refl ∙ sym (bodies_told (number_told told_change) prefix (values_before told_change) r.was r.before)
+  body_there = by r.was refl ∙ sym (bodies_told (kinds r.relation.fields) (number_told told_change) prefix (values_before told_change) r.was r.before)
     where
-      by : (was : Option (List Value)) → r.was ≡ was → body_at at.pages r.relation.segment (tid_told told_change) ≡ option_map (spelled_with (number_told told_change) prefix) r.was
-      by None is = none_stands is _ refl ∙ sym (ap (option_map (spelled_with (number_told told_change) prefix)) is)
-      by (Some values) is = can.spells.contents.stands (number_told told_change) r.relation (tid_told told_change) values r.at (holds_old ∙ ap (option_map Values) is) ∙ sym (ap (option_map (spelled_with (number_told told_change) prefix)) is)
+      by : (was : Option (List Value)) → r.was ≡ was → body_at at.pages r.relation.segment (tid_told told_change) ≡ option_map (spelled_with (kinds r.relation.fields) (number_told told_change) prefix) r.was
+      by None is = none_stands is _ refl ∙ sym (ap (option_map (spelled_with (kinds r.relation.fields) (number_told told_change) prefix)) is)
+      by (Some values) is = can.spells.contents.stands (number_told told_change) r.relation (tid_told told_change) values r.at (holds_old ∙ ap (option_map Values) is) ∙ ap Some (body_is at.catalog.listing tables.contents (number_told told_change) r.relation r.at (tid_told told_change) values) ∙ sym (ap (option_map (spelled_with (kinds r.relation.fields) (number_told told_change) prefix)) is)
 
   -- and these are the bytes between
   pub prefix_there : IsPrefix at.catalog.listing told_change prefix
@@ -209,7 +210,7 @@ module _ {at : AccessView} {told_change : told.Change} {tables : Tables} {change
       same_chains : HaveSameChains next_contents tables.contents
       same_chains = subst (λ (item : Item). HaveSameChains (put tables.contents item change.new) tables.contents) (sym r.item) (chains_kept tables.contents r.relation.name (tid_told told_change) change.new)
 
-      one_none : (was next : Option (List Value)) (old new : Option (List ℕ)) → old ≡ option_map tuple_bytes was → new ≡ option_map tuple_bytes next → (is_some old && is_some new) ≡ false → (was ≡ None) ⊎ (next ≡ None)
+      one_none : (was next : Option (List Value)) (old new : Option (List ℕ)) → old ≡ option_map (tuple_bytes (kinds r.relation.fields)) was → new ≡ option_map (tuple_bytes (kinds r.relation.fields)) next → (is_some old && is_some new) ≡ false → (was ≡ None) ⊎ (next ≡ None)
       one_none None next old new before after off = inl refl
       one_none (Some w) None old new before after off = inr refl
       one_none (Some w) (Some n) old new before after off = absurd (true≢false ((λ i. is_some (sym before i) && is_some (sym after i)) ∙ off))

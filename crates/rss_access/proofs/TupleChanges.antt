@@ -15,7 +15,8 @@ use Rattle.rss_base.specs.declared.tid.Tid.{Tid}
 use Rattle.rss_base.specs.declared.key.PageKey.{PageKey}
 use Rattle.rss_base.specs.declared.key.Space.TheVariants.{Home, Overflow}
 use Rattle.rss_page.specs.Content.{Content, Empty, Here, Forward, body_length}
-use Rattle.rss_page.specs.Slotted.{bodies_room, HasRoom}
+use Rattle.rss_base.specs.Sizes.{bodies_room}
+use Rattle.rss_page.specs.Slotted.{HasRoom}
 use Rattle.rss_page.specs.Slotted.{body_bytes as bytes_in}
 use Rattle.rss_page.specs.Surveyed.{held_at}
 use Rattle.rss_page.proofs.Contents.{length-entries}

@@ -8,7 +8,8 @@ use Rattle.rss_base.specs.Steps.{PagesView, PagesStep, PagesCall, no_page}
 use Rattle.rss_base.specs.declared.fault.PageFault.{PageFault}
 use Rattle.rss_base.specs.declared.tid.Tid.{Tid}
 use Rattle.rss_base.proofs.Steps.{rests, then, all_held}
-use Rattle.rss_tuple.specs.Finding.{IsAfter, IsNext}
+use Rattle.rss_base.specs.Tids.{IsAfter}
+use Rattle.rss_tuple.specs.Finding.{IsNext}
 use Rattle.rss_tuple.specs.TupleSteps.{IsLeast, NoneIs, tuples_in}
 use Rattle.rss_image.specs.Images.{ImageTree, HasImage}
 use Rattle.rss_image.specs.declared.image.Image.{Image}

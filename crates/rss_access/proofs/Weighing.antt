@@ -1,6 +1,6 @@
--- How many bytes the tuples of a page have: by their bodies, and by the relations of the segment. (This belongs to rss_model.)
+-- How many bytes the tuples of a page have: by their bodies, and by the relations of the segment.
 use Rattle.std.proofs.Common.{◌≡◌, inl, inr, ℕ, ◌+◌, ◌≤◌, Bool, true, List, [], ◌∷◌, refl, sym, ◌∙◌, ap, arith}
-use Rattle.std.specs.Prelude.{Option, Some, None, filter, sum_by}
+use Rattle.std.specs.Prelude.{Option, Some, None, option_map, unwrap_or, filter, sum_by}
 use Rattle.std.specs.FinMap as map
 use Rattle.std.specs.List.{list_any, range_with_len}
 use Rattle.std.specs.Ordering.{eq_by_cmp}
@@ -10,16 +10,15 @@ use Rattle.std.proofs.lemmas.List.Sums.{sum_by-cons, sum_by-le-sum_by}
 use Rattle.rss_base.specs.Listings.{Listing, ListingFits, segment_at}
 use Rattle.rss_base.specs.declared.name.Name.{Name}
 use Rattle.rss_base.specs.declared.tid.Tid.{Tid}
-use Rattle.rss_base.specs.declared.item.Item.TheVariants.{Tuple as TupleItem}
 use Rattle.rss_tuple.specs.Directory.{Bodies, tid_at}
-use Rattle.rss_model.specs.Items.{name_cmp}
-use Rattle.rss_model.specs.Tables.{Tables, content}
-use Rattle.rss_model.specs.Meter.{is_in_segment, relations_in, held_size, bytes_of, bytes_on}
-use Rattle.rss_model.specs.Store.{Defines, SpellsContents}
-use Rattle.rss_model.proofs.Prefixes.{size_is}
+use Rattle.rss_model.specs.Items.{Content, name_cmp}
+use Rattle.rss_model.specs.Tables.{Tables}
+use Rattle.rss_model.specs.Meter.{is_in_segment, relations_in, body_size, held_size, bytes_of, bytes_on}
+use Rattle.rss_stored.specs.Store.{Defines, SpellsContents}
+use Rattle.rss_stored.proofs.Prefixes.{size_is}
 use Rattle.rss_model.proofs.Codes.{name_apart}
 use Rattle.rss_model.proofs.Frees.{stands_in, is_listed}
-use Rattle.rss_model.proofs.Listed.{stands_within}
+use Rattle.rss_stored.proofs.Listed.{stands_within}
 use Rattle.rss_access.specs.Tuples.{size_of_body, bytes_at}
 
 -- ---- sums of sums
@@ -65,7 +64,7 @@ le_by less same = omega (arith, less, same)
 module _ {listing : Listing} {bodies : Bodies} (tables : Tables) (fits : ListingFits listing) (defines : Defines listing tables.definitions) (spells : SpellsContents listing bodies tables.contents) (n : ℕ) (segment : Name) (named : segment_at listing n ≡ Some segment) where
   -- how many bytes a tuple of a relation has
   abbrev size_at : Tid → Name → ℕ
-  size_at tid relation = held_size tables.definitions relation (content tables.contents (TupleItem relation tid))
+  size_at tid relation = held_size tables relation tid
 
   -- a body is that of a tuple of one of the relations
   body_less : (tid : Tid) (body : Option (List ℕ)) → bodies n tid ≡ body → size_of_body body ≤ sum_by (size_at tid) (relations_in tables segment)
@@ -73,7 +72,7 @@ module _ {listing : Listing} {bodies : Bodies} (tables : Tables) (fits : Listing
   body_less tid (Some body) is =
       let of = spells.bodies_are n tid body is in
       let stands = stands_within tables fits defines of.number of.relation of.at segment (ap (segment_at listing) of.within ∙ named) in
-      let size : size_at tid of.relation.name ≡ size_of_body (Some body) = ap (held_size tables.definitions of.relation.name) of.holds ∙ size_is fits defines of.number of.relation of.at tables.contents tid of.values ∙ ap (λ (b : List ℕ). size_of_body (Some b)) (sym of.is) in
+      let size : size_at tid of.relation.name ≡ size_of_body (Some body) = ap (λ (held : Option Content). unwrap_or (option_map (body_size tables.definitions of.relation.name) held) 0) of.holds ∙ size_is fits defines of.number of.relation of.at tables.contents tid of.values ∙ ap (λ (b : List ℕ). size_of_body (Some b)) (sym of.is) in
       omega (arith, size, kept_less (is_in_segment tables segment) (size_at tid) (map.keys tables.definitions.relations) of.relation.name (is_listed tables segment of.relation.name stands) (stands_in tables segment of.relation.name stands))
 
   -- the tuples of the segment's relations have all bytes of its bodies

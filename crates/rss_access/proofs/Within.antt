@@ -5,7 +5,7 @@ use Rattle.std.proofs.Math.Logic.{∥∥₁_elim}
 use Rattle.std.proofs.Math.Bridge.{le_prop}
 use Rattle.std.proofs.lemmas.List.Elements.{recursion_from_All, All-from_recursion}
 use Rattle.rss_base.specs.Nodes.{NodeEntry}
-use Rattle.rss_model.specs.Store.{AreNodesWithin}
+use Rattle.rss_stored.specs.Store.{AreNodesWithin}
 use Rattle.rss_access.specs.Changes.{AccessView, HasTables}
 
 -- so it is where pages spell tables

@@ -13,7 +13,7 @@ use Rattle.rss_tuple.specs.Directory.{Bodies}
 use Rattle.rss_tuple.specs.Heaps.{AreHeaps}
 use Rattle.rss_catalog.specs.Catalogs.{CatalogView, IsPending, pending_pages, StoresListing}
 use Rattle.rss_model.specs.Tables.{Tables}
-use Rattle.rss_model.specs.Store.{SpellsTables, SpellsContents, IsStorePage}
+use Rattle.rss_stored.specs.Store.{SpellsTables, SpellsContents, IsStorePage}
 use Rattle.rss_access.specs.Written.{AreWritten, is_pending}
 use Rattle.rss_access.proofs.Heaped.{SameHeaps, bodies_alike, linked_alike, heaps_alike}
 use Rattle.rss_access.proofs.Imaged.{SameImages, images_kept}

@@ -5,7 +5,7 @@ use Rattle.rss_base.specs.TupleTypes.{kinds, Spells}
 use Rattle.rss_value.specs.Spelled.{is_spelled}
 use Rattle.rss_base.specs.Listings.{Listing, relation_at}
 use Rattle.rss_base.specs.declared.relation.RelationEntry.{RelationEntry}
-use Rattle.rss_base.specs.declared.value.FieldKind.{FieldKind}
+use Rattle.rss_base.specs.declared.value.FieldForm.{FieldForm}
 use Rattle.rss_base.specs.declared.value.Value.{Value}
 
 -- These bytes stand in a body behind the number of a relation and the blocks of its links.
@@ -15,7 +15,7 @@ pub record HoldsBytes (listing : Listing) (number : ℕ) (body bytes : List ℕ)
   pub is : body ≡ number ∷ (prefix ++ bytes)
 
 -- the body is that of a tuple with these values, of the relation of this number and these fields
-pub record IsBodyOf (listing : Listing) (number : ℕ) (fields : List FieldKind) (values : List Value) (body : List ℕ) : Type 0 where
+pub record IsBodyOf (listing : Listing) (number : ℕ) (fields : List FieldForm) (values : List Value) (body : List ℕ) : Type 0 where
   pub bytes : List ℕ
   pub holds : HoldsBytes listing number body bytes
   pub spelled : Spells fields bytes values

@@ -4,7 +4,7 @@ use Rattle.rss_base.specs.DiskRule.{IsTold}
 use Rattle.rss_base.specs.Faults.{Rises}
 use Rattle.rss_base.specs.Steps.{PagesView, Keys, PagesStep, no_page, pages_in}
 use Rattle.rss_base.specs.declared.key.Space.TheVariants.{Image as ImageSpace}
-use Rattle.rss_base.specs.TupleTypes.{tuple_bytes}
+use Rattle.rss_base.specs.TupleTypes.{kinds, tuple_bytes}
 use Rattle.rss_base.specs.Listings.{Listing, relation_at, link_at}
 use Rattle.rss_base.specs.declared.name.Name.{Name}
 use Rattle.rss_base.specs.declared.tid.Tid.{Tid}
@@ -26,7 +26,7 @@ use Rattle.rss_model.specs.Chains.{LinksFit}
 use Rattle.rss_model.specs.Changes.{Change, apply, undo}
 use Rattle.rss_model.specs.Fits.{Fits, IsLive, IsIdentifier, tuple_limit}
 use Rattle.rss_model.specs.Meanings.{IsChangeTold, Means}
-use Rattle.rss_model.specs.Store.{SpellsTables, SpellsImages, AreNodesWithin}
+use Rattle.rss_stored.specs.Store.{SpellsTables, SpellsImages, AreNodesWithin}
 use Rattle.rss_members.specs.Calls.{MembersView, Connects, Disconnects, NoneConnects, NoneDisconnects, Reends, pages_of_link}
 use Rattle.rss_entries.specs.Rooms.{images_room, image_places, images_cost}
 use Rattle.rss_entries.specs.Images.{AreTuples, TupleMove, CanMove, after_move}
@@ -139,8 +139,8 @@ own_image_pages listing number key =
 pub record TellsMove (change : told.Change) (move : TupleMove) : Type 0 where
   pub number : number_told change ≡ move.number
   pub tid : tid_told change ≡ move.tid
-  pub before : values_before change ≡ option_map tuple_bytes move.was
-  pub after : values_after change ≡ option_map tuple_bytes move.next
+  pub before : values_before change ≡ option_map (tuple_bytes (kinds move.relation.fields)) move.was
+  pub after : values_after change ≡ option_map (tuple_bytes (kinds move.relation.fields)) move.next
 
 -- The image pages show tables in which the tuple can change so, and there is room for its entries.
 pub record ShowsMove (at : AccessView) (change : told.Change) (move : TupleMove) (tables : Tables) : Type 0 where

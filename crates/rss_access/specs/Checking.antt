@@ -20,7 +20,7 @@ use Rattle.rss_image.specs.declared.image.Image.{Image}
 use Rattle.rss_tuple.specs.Directory.{bodies_of}
 use Rattle.rss_model.specs.Tables.{Tables}
 use Rattle.rss_model.specs.Fits.{IsLive, IsIdentifier}
-use Rattle.rss_model.specs.Store.{Defines, AreCounts, IsListedImage, SpellsContents, SpellsImage, image_definition, nodes_of}
+use Rattle.rss_stored.specs.Store.{Defines, AreCounts, IsListedImage, SpellsContents, SpellsImage, image_definition, nodes_of}
 use Rattle.rss_entries.specs.Images.{AreTuples}
 use Rattle.rss_entries.specs.Keyed.{key_with}
 use Rattle.rss_entries.specs.Moving.{KeyKinds}

@@ -18,7 +18,7 @@ use Rattle.rss_base.specs.declared.relation.RelationEntry.{RelationEntry}
 use Rattle.rss_image.specs.Images.{pairs_most}
 use Rattle.rss_model.specs.Tables.{Tables}
 use Rattle.rss_model.specs.Images.{image_list}
-use Rattle.rss_model.specs.Store.{image_definition}
+use Rattle.rss_stored.specs.Store.{image_definition}
 use Rattle.rss_entries.specs.Keyed.{key_with}
 use Rattle.rss_entries.specs.Moving.{KeyKinds}
 use Rattle.rss_entries.specs.Seeking.{kept_pair}

@@ -10,7 +10,7 @@ use Rattle.rss_base.specs.declared.value.Value.{Value}
 use Rattle.rss_model.specs.Tables.{Tables}
 use Rattle.rss_model.specs.Images.{Entry, image_list, key_in, next_entry, owner_of_key}
 use Rattle.rss_model.specs.Fits.{Fits}
-use Rattle.rss_model.specs.Store.{SpellsTables, IsListedImage, image_definition}
+use Rattle.rss_stored.specs.Store.{SpellsTables, IsListedImage, image_definition}
 use Rattle.rss_entries.specs.Rooms.{width_of}
 use Rattle.rss_entries.specs.Seeking.{IsKeyIn, IsEntryIn, start_bytes, kept_pair}
 use Rattle.rss_access.specs.Changes.{AccessView}

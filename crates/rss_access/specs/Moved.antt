@@ -9,7 +9,7 @@ use Rattle.rss_base.specs.declared.value.Value.{Value}
 use Rattle.rss_base.specs.declared.change.Change as told
 use Rattle.rss_catalog.specs.Catalogs.{CatalogView}
 use Rattle.rss_model.specs.Tables.{Tables}
-use Rattle.rss_model.specs.Store.{IsListedImage}
+use Rattle.rss_stored.specs.Store.{IsListedImage}
 use Rattle.rss_entries.specs.Rooms.{images_room, image_places}
 use Rattle.rss_entries.specs.Moving.{AreSpelled}
 use Rattle.rss_entries.specs.Keyed.{IsOneKey}

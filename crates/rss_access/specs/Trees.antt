@@ -10,7 +10,7 @@ use Rattle.rss_levels.specs.Entries.{Each}
 use Rattle.rss_image.specs.Images.{has_page, AreAllMade, Becomes, DestroysImage}
 use Rattle.rss_image.specs.declared.image.Image.{Image}
 use Rattle.rss_catalog.specs.Catalogs.{Lists, page_of}
-use Rattle.rss_model.specs.Store.{IsListedImage}
+use Rattle.rss_stored.specs.Store.{IsListedImage}
 use Rattle.rss_entries.specs.Images.{image_of}
 use Rattle.rss_access.specs.Changes.{AccessView}
 

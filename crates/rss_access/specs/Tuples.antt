@@ -2,15 +2,15 @@
 use Rattle.std.specs.Prelude.{◌≡◌, ◌⊎◌, ℕ, ◌<◌, ◌≤◌, Bool, true, false, List, ◌∷◌, length, sum_by, Option, Some, MatchOption, option_map, unwrap_or}
 use Rattle.std.specs.List.{range_with_len}
 use Rattle.rss_base.specs.DiskRule.{IsTold}
-use Rattle.rss_base.specs.Sizes.{page_entries}
+use Rattle.rss_base.specs.Sizes.{page_entries, bodies_room}
 use Rattle.rss_base.specs.Paged.{mapped_pages}
 use Rattle.rss_base.specs.Steps.{PagesView}
 use Rattle.rss_base.specs.declared.tid.Tid.{Tid}
 use Rattle.rss_base.specs.declared.key.PageKey.{PageKey}
 use Rattle.rss_base.specs.declared.key.Space.TheVariants.{Home, Overflow}
-use Rattle.rss_page.specs.Slotted.{IsHeapKey, bodies_room}
+use Rattle.rss_page.specs.Slotted.{IsHeapKey}
 use Rattle.rss_tuple.specs.Directory.{Bodies, bodies_of, with_body, tid_at}
-use Rattle.rss_tuple.specs.Finding.{IsAfter}
+use Rattle.rss_base.specs.Tids.{IsAfter}
 use Rattle.rss_tuple.specs.Heaps.{body_most, AreHeaps}
 use Rattle.rss_tuple.specs.TupleSteps.{IsLeast, NoneIs}
 

@@ -10,7 +10,7 @@ ghost use Rattle.rss_value.specs.Numbers.{IsNumberOf};
 ghost use Rattle.rss_tuple.specs.Heaps.{AreHeaps};
 ghost use Rattle.rss_node.specs.Nodes.{AreNodes};
 ghost use Rattle.rss_image.specs.Images.{nodes_of};
-ghost use Rattle.rss_model.specs.Store.{IsListedImage};
+ghost use Rattle.rss_stored.specs.Store.{IsListedImage};
 ghost use Rattle.rss_entries.specs.Images.{image_of, key_of};
 ghost use Rattle.rss_entries.specs.Keyed.{kinds_of};
 ghost use Rattle.rss_access.specs.Changes.{both, CanAlter};

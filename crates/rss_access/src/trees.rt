@@ -8,7 +8,7 @@ ghost use Rattle.rss_base.specs.declared.image.ImageEntry.{ImageEntry as AnImage
 ghost use Rattle.rss_base.specs.declared.relation.RelationEntry.{RelationEntry as Entry};
 ghost use Rattle.rss_image.specs.Emptied.{inner_most};
 ghost use Rattle.rss_image.specs.Images.{page_bound, pairs_most};
-ghost use Rattle.rss_model.specs.Store.{IsListedImage};
+ghost use Rattle.rss_stored.specs.Store.{IsListedImage};
 ghost use Rattle.rss_entries.specs.Building.{pair_list, AreRising};
 ghost use Rattle.rss_entries.specs.Rooms.{width_of};
 ghost use Rattle.rss_access.specs.Changes.{both, CanAlter};

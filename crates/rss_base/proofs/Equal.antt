@@ -8,7 +8,7 @@ use Rattle.std.specs.Prelude.{nat_eq, Option, Some, None}
 use Rattle.rss_base.specs.declared.name.Name.{Name}
 use Rattle.rss_base.specs.declared.tid.Tid.{Tid}
 use Rattle.rss_base.specs.declared.value.Value.{Value}
-use Rattle.rss_base.specs.declared.value.Value.TheVariants.{Int, Text}
+use Rattle.rss_base.specs.declared.value.Value.TheVariants.{Int, Text, Undefined}
 use Rattle.rss_base.specs.declared.item.Item.{Item}
 use Rattle.rss_base.specs.declared.item.Item.TheVariants.{Segment, Relation, Tuple, Chain, Key}
 use Rattle.rss_base.specs.contracts.value.ValuePartialEq.TheImpl as value_eq
@@ -36,6 +36,11 @@ value_decides (Int a) (Int b) = (λ e. ap Int ((signed_Decides a b).0 e), λ e. 
 value_decides (Text a) (Text b) = (λ e. ap Text ((bytes_decides a b).0 e), λ e. (bytes_decides a b).1 (cc))
 value_decides (Int a) (Text b) = (λ e. refuted e, λ e. absurd (cc))
 value_decides (Text a) (Int b) = (λ e. refuted e, λ e. absurd (cc))
+value_decides Undefined Undefined = (λ e. refl, λ e. refl)
+value_decides Undefined (Int b) = (λ e. refuted e, λ e. absurd (cc))
+value_decides Undefined (Text b) = (λ e. refuted e, λ e. absurd (cc))
+value_decides (Int a) Undefined = (λ e. refuted e, λ e. absurd (cc))
+value_decides (Text a) Undefined = (λ e. refuted e, λ e. absurd (cc))
 
 pub name_decides : (x y : Name) → Decides (same_name x y) (x ≡ y)
 name_decides x y = (λ e i. record { bytes = (bytes_decides x.bytes y.bytes).0 e i }, λ e. (bytes_decides x.bytes y.bytes).1 (ap (λ (n : Name). n.bytes) e))

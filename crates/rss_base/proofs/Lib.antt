@@ -10,3 +10,4 @@ pub mod Numbers
 pub mod Looking
 pub mod Copies
 pub mod Equal
+pub mod Originals

@@ -2,7 +2,7 @@
 -- slots, one behind the other.
 use Rattle.std.specs.Prelude.{◌≡◌, ◌≢◌, ℕ, ◌+◌, ◌-◌, ◌*◌, ◌/◌, ◌%◌, ◌<◌, ◌≤◌, List, [], ◌∷◌, ◌++◌, length, slice_index, replicate, codes}
 use Rattle.std.specs.Int.{w32, w64, to_be_bytes}
-use Rattle.rss_base.specs.Sizes.{piece_bytes, map_entries, head_pages, slots_least, slots_most, log_pages_least, log_pages_most, position_limit, largest_checkpoint}
+use Rattle.rss_base.specs.Sizes.{piece_bytes, format_version, map_entries, head_pages, slots_least, slots_most, log_pages_least, log_pages_most, position_limit, largest_checkpoint}
 use Rattle.rss_base.specs.DiskRule.{Pages, page, Places, IsWithin}
 use Rattle.rss_base.specs.declared.root.Root.{Root}
 use Rattle.rss_base.specs.declared.fault.OpenFault.{OpenFault}
@@ -59,20 +59,22 @@ root_of pages = page pages (selected pages)
 abbrev pub log_free : Root → ℕ
 log_free root = (root.head / piece_bytes + root.log_pages + 1) * piece_bytes - 1 - root.end
 
--- The bytes of a root: its mark, the version 1, two zeros, the sizes, the area, seven zeros, the
+-- The bytes of a root: its mark, the version, two zeros, the sizes, the area, seven zeros, the
 -- positions of the log, 48 zeros, the log's tail, and zeros to the page's end. Numbers are big-endian.
 abbrev pub root_page : Root → List ℕ
 root_page root =
-    codes "RSSR" ++ 0 ∷ 1 ∷ 0 ∷ 0 ∷ [] ++ to_be_bytes w32 root.slots ++ to_be_bytes w32 root.log_pages
+    codes "RSSR" ++ 0 ∷ root.version ∷ 0 ∷ 0 ∷ [] ++ to_be_bytes w32 root.slots ++ to_be_bytes w32 root.log_pages
     ++ root.area ∷ replicate 7 0 ++ to_be_bytes w64 root.head ++ to_be_bytes w64 root.checkpoint
     ++ to_be_bytes w64 root.end ++ replicate 48 0
     ++ root.tail
     ++ replicate (piece_bytes - length root.tail) 0
 
--- A root is well-formed: its sizes are in range, the positions of the log stand in order and below
+-- A root is well-formed: its version is known, its sizes are in range, the positions of the log stand in order and below
 -- 2 ^ 63, the largest Checkpoint record has room, and its tail are the bytes of the log behind the
 -- last full piece.
 pub record IsWellFormed (root : Root) : Type 0 where
+  pub version_least : 1 ≤ root.version
+  pub version_most : root.version ≤ format_version
   pub slots_least : slots_least ≤ root.slots
   pub slots_most : root.slots ≤ slots_most
   pub log_least : log_pages_least ≤ root.log_pages

@@ -14,6 +14,7 @@ pub mod Answers
 pub mod LogRecords
 pub mod LogPages
 pub mod Names
+pub mod Tids
 pub mod Items
 pub mod TupleTypes
 pub mod Listings

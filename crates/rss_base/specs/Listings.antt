@@ -4,7 +4,7 @@ use Rattle.std.specs.Int.{w32, to_be_bytes}
 use Rattle.rss_base.specs.Sizes.{page_bytes, segments, relations_most, images_most, links_most, roles_most, system_pages}
 use Rattle.rss_base.specs.LogRecords.{place_bytes, HasSlot, HasPage}
 use Rattle.rss_base.specs.Names.{IsName, name_bytes}
-use Rattle.rss_base.specs.TupleTypes.{AreFields, kinds, chosen, key_width, most_key_width, most_fields}
+use Rattle.rss_base.specs.TupleTypes.{AreFields, kinds, is_added, chosen, key_width, most_key_width, most_fields}
 use Rattle.rss_base.specs.Paged.{Held, page_key}
 use Rattle.rss_base.specs.declared.name.Name.{Name}
 use Rattle.rss_base.specs.declared.value.FieldKind.{FieldKind}
@@ -128,13 +128,14 @@ pub record ImageFits (listing : Listing) (image : ImageEntry) : Type 0 where
 abbrev pub IsSpelled : Tid → Type 0
 IsSpelled tid = HasPage tid × HasSlot tid
 
--- a link may be listed: its relations are, and they are two
+-- A link may be listed: its relations are, and they are two. As yet no call makes a late one.
 pub record LinkFits (listing : Listing) (link : LinkEntry) : Type 0 where
   pub name : IsName link.name
   pub child : is_some (relation_at listing link.child) ≡ true
   pub parent : IfSome link.parent (λ number. (is_some (relation_at listing number) ≡ true) × (number ≢ link.child))
   pub first : IfSome link.first IsSpelled
   pub last : IfSome link.last IsSpelled
+  pub early : link.late ≡ false
 
 -- the relation has a part in the link
 abbrev pub is_parent_in : Option ℕ → ℕ → Bool
@@ -211,6 +212,19 @@ with_count live relation = record relation { live = live }
 abbrev pub with_root : ℕ → ℕ → ImageEntry → ImageEntry
 with_root root levels image = record image { root = root; levels = levels }
 
+-- ---- versions of the format
+
+-- how many of these fields were added
+abbrev pub added_count : List FieldDef → ℕ
+added_count fields = count_by is_added fields
+
+-- a store of a version may have these definitions: fields are added from version 2 on, and links are late from version 3 on
+pub record SuitsVersion (version : ℕ) (listing : Listing) : Type 0 where
+  pub fields : version < 2 → (number : ℕ) (relation : RelationEntry)
+      → relation_at listing number ≡ Some relation → added_count relation.fields ≡ 0
+  pub links : version < 3 → (number : ℕ) (link : LinkEntry)
+      → link_at listing number ≡ Some link → link.late ≡ false
+
 -- ---- bytes
 
 -- zeros stand behind the bytes, up to this length
@@ -242,7 +256,7 @@ abbrev pub relation_spelled : Option RelationEntry → List ℕ
 relation_spelled None = replicate relation_bytes 0
 relation_spelled (Some relation) =
     padded relation_bytes (relation.name.bytes
-    ++ relation.segment ∷ length relation.fields ∷ 0 ∷ 0 ∷ []
+    ++ relation.segment ∷ length relation.fields ∷ added_count relation.fields ∷ 0 ∷ []
     ++ to_be_bytes w32 relation.live ++ replicate 8 0 ++ flat_map field_spelled relation.fields)
 
 -- how many bytes an image and a link have in the catalog, and how many images a page has
@@ -274,7 +288,8 @@ parent_spelled (Some parent) = 2 ∷ parent ∷ []
 abbrev pub link_spelled : Option LinkEntry → List ℕ
 link_spelled None = replicate link_bytes 0
 link_spelled (Some link) =
-    padded link_bytes (link.name.bytes ++ parent_spelled link.parent ++ link.child ∷ 0 ∷ []
+    padded link_bytes (link.name.bytes ++ parent_spelled link.parent
+    ++ link.child ∷ flag_byte link.late ∷ []
     ++ place_bytes link.first ++ place_bytes link.last)
 
 -- how many pages of the catalog have relations, and how many images

@@ -91,9 +91,13 @@ block_size Member = 13
 block_size Child = 18
 block_size Parent = 12
 
+-- the part of a relation by whose block its tuples' prefixes are longer: a late link has none in a prefix
+abbrev pub early_part : LinkEntry → ℕ → Part
+early_part link number = if link.late then Outside else part_in link number
+
 abbrev pub listed_block_size : ℕ → Option LinkEntry → ℕ
 listed_block_size number None = 0
-listed_block_size number (Some link) = block_size (part_in link number)
+listed_block_size number (Some link) = block_size (early_part link number)
 
 -- how many bytes the prefix of a relation's tuples has, by its number and all links
 abbrev pub prefix_size : List (Option LinkEntry) → ℕ → ℕ

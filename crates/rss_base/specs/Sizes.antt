@@ -13,6 +13,10 @@ zero_page = replicate page_bytes 0
 abbrev pub page_entries : ℕ
 page_entries = 128
 
+-- how many bytes the bodies of a page may have together
+abbrev pub bodies_room : ℕ
+bodies_room = 3056
+
 -- how many bytes of the log a piece has
 abbrev pub piece_bytes : ℕ
 piece_bytes = 4000
@@ -24,6 +28,10 @@ map_entries = 512
 -- the pages in front of the map areas: the selector and the two roots
 abbrev pub head_pages : ℕ
 head_pages = 3
+
+-- the newest version of the format
+abbrev pub format_version : ℕ
+format_version = 3
 
 -- the least and the greatest number of slots of a store
 abbrev pub slots_least : ℕ

@@ -1,7 +1,9 @@
 // Fields of relations.
-ghost use Rattle.std.specs.Prelude.{◌≡◌, [], ◌∷◌, ◌++◌, IfOk, OnOk, OnErr};
+ghost use Rattle.std.specs.Prelude.{◌≡◌, false, [], ◌∷◌, ◌++◌, map, IfOk, OnOk, OnErr};
+ghost use Rattle.rss_base.specs.TupleTypes.{form_of};
+ghost use Rattle.rss_base.specs.declared.field.FieldDef.{FieldDef as Field};
 
-use crate::{FieldKind, Name};
+use crate::{FieldForm, FieldKind, Name};
 use std::alloc::{AllocError, Global};
 use std::marker::Model;
 
@@ -10,6 +12,20 @@ use std::marker::Model;
 pub struct FieldDef {
     pub name: Name,
     pub kind: FieldKind,
+    /// It was added to a relation that was there, behind the fields that it had.
+    pub added: bool,
+}
+
+impl FieldDef {
+    /// What the field asks of its values.
+    pub fn form(self) -> FieldForm
+        ensures { result ≡ form_of self }
+    {
+        FieldForm {
+            kind: self.kind,
+            added: self.added,
+        }
+    }
 }
 
 /// The most fields that a relation has.
@@ -57,6 +73,15 @@ impl Fields {
     {
         self.fields.push(field)?;
         Ok(())
+    }
+
+    /// Makes original fields of them.
+    pub fn make_original(&mut self)
+        ensures { self.new ≡ map (λ (field : Field). record field { added = false }) self.old }
+    {
+        for field in self.fields.iter_mut() {
+            field.added = false;
+        }
     }
 
     pub fn as_slice(&self) -> &[FieldDef]

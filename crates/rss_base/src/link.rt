@@ -9,6 +9,9 @@ pub struct LinkEntry {
     pub parent: Option<u8>,
     /// The number of the relation whose tuples stand in chains.
     pub child: u8,
+    /// It has a block in a tuple's body only while the block says something. The block of a link
+    /// that isn't late stands in each body of its relations.
+    pub late: bool,
     /// The ends of the one chain, where there is no parent.
     pub first: Option<Tid>,
     pub last: Option<Tid>,

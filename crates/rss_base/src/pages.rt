@@ -1,5 +1,5 @@
 // Pages by their keys.
-ghost use Rattle.std.specs.Prelude.{◌≡◌, ◌≢◌, ◌+◌, ◌<◌, ◌≤◌, true, false, is_some, Some, IfOk, IfSome, IfNone, OnOk};
+ghost use Rattle.std.specs.Prelude.{◌≡◌, ◌≢◌, ◌+◌, ◌^◌, ◌<◌, ◌≤◌, true, false, is_some, Some, IfOk, IfSome, IfNone, OnOk};
 ghost use Rattle.rss_base.specs.Faults.{counted};
 ghost use Rattle.rss_base.specs.Sizes.{segments, page_bytes};
 ghost use Rattle.rss_base.specs.DiskRule.{Pages as DevicePages, Told, IsTold, Leaves};
@@ -163,6 +163,9 @@ pub trait Pages {
         ensures given { OnOk result (GivesPage key (view self.old) (view self.new)) }
         ensures did { PagesCall (only_on_ok key result) 0 0
             (view self.old) (view self.new) result };
+
+    /// There are fewer slots than a `u32` counts, so the number behind each page's is a `u32` too.
+    ghost few_slots: { (pages : Self) → (view pages).slots < 2 ^ 32 };
 
     /// A device as it reads is one of its images.
     ghost reads_as_image: { (pages : Self) → Told (view pages).disk (Leaves (view pages).disk) };

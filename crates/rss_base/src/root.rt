@@ -11,11 +11,17 @@ pub const LOG_PAGES_LEAST: u32 = 8;
 
 pub const LOG_PAGES_MOST: u32 = 4096;
 
-/// A root of a store: the sizes of the device's parts, the map area in use, and where the log
+/// The version of the format that a store has as it is made, and from each checkpoint on. Those of
+/// before, from 1 on, are read.
+pub const VERSION: u8 = 3;
+
+/// A root of a store: the version of its format, the sizes of the device's parts, the map area in use, and where the log
 /// stands.
 /// Positions in the log count its bytes from 0.
 #[derive(Drop)]
 pub struct Root {
+    /// The version of the format, 1 to 3.
+    pub version: u8,
     /// How many data slots there are.
     pub slots: u32,
     /// How many log pages there are.

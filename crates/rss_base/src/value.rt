@@ -1,4 +1,4 @@
-// Values and the kinds of fields that hold them.
+// Values, and what fields ask of them.
 ghost use Rattle.std.specs.Prelude.{◌≡◌};
 ghost use Rattle.rss_base.specs.TupleTypes.{is_kind};
 
@@ -10,6 +10,8 @@ pub enum Value {
     Int(i64),
     /// UTF-8 text of characters from U+0020 on, without U+007F.
     Text(Text),
+    /// What an added field holds until it is given a value.
+    Undefined,
 }
 
 /// What a field may hold: an INT, or a TEXT of at most so many bytes, 1 to 255.
@@ -29,4 +31,12 @@ impl FieldKind {
             FieldKind::Text(most) => most >= 1,
         }
     }
+}
+
+/// What a field asks of its values. An original field holds a value of its kind; one that was added
+/// to its relation may also be undefined.
+#[derive(Clone, Copy, Debug, PartialEq, Eq)]
+pub struct FieldForm {
+    pub kind: FieldKind,
+    pub added: bool,
 }

@@ -22,7 +22,7 @@ use Rattle.rss_notes.specs.Notes.{NotesView, Marks}
 use Rattle.rss_shadow.specs.Maps.{Maps, spare, LacksPage, GainsPage, LosesPage, MovesPage, IsLeastLacking}
 use Rattle.rss_shadow.proofs.Counts.{Owners, no_owner, one_page, Assigns-set, owned_within}
 use Rattle.rss_shadow.proofs.Slots.{Changes, Changes-then, Changes-gains, Changes-loses}
-use Rattle.rss_buffer.specs.Frames.{Frame, FrameOf, with_frame}
+use Rattle.rss_frames.specs.Frames.{Frame, FrameOf}
 use Rattle.rss_buffer.specs.declared.stage.Stage.TheVariants.{Changing}
 use Rattle.rss_buffer.specs.Slots.{held_in, held_by, fixed_by, told_pages}
 use Rattle.rss_base.specs.StoredPages.{slot_of, mapped_by}
@@ -33,7 +33,7 @@ use Rattle.rss_buffer.specs.Views.{pages_view}
 use Rattle.rss_base.proofs.Counts.{mapped_pages-owners}
 use Rattle.rss_base.proofs.Steps.{kept_all}
 use Rattle.rss_base.proofs.Keys.{is_same-true, is_same-itself, owner_of-slot_of, the_slot}
-use Rattle.rss_buffer.proofs.Lookups.{with_frame-same, with_frame-other}
+use Rattle.rss_buffer.proofs.Lookups.{with_frame, with_frame-same, with_frame-other}
 use Rattle.rss_shadow.proofs.Owned.{mapped-owned, LacksPage-unmapped, mapped-has, mapped-lacks, slot_of-here, slot_of-others, mapped-changed}
 use Rattle.rss_buffer.proofs.Turns.{with_frame-cases}
 use Rattle.rss_buffer.proofs.Waits.{none-among}

@@ -11,7 +11,8 @@ use Rattle.rss_base.specs.declared.key.PageKey.{PageKey}
 use Rattle.rss_pagemap.proofs.Written.{area_ends}
 use Rattle.rss_root.specs.Roots.{IsSwitchPlace}
 use Rattle.rss_shadow.specs.Maps.{Maps}
-use Rattle.rss_buffer.specs.Frames.{FrameOf, Frame, least_frames}
+use Rattle.rss_frames.specs.Frames.{FrameOf, Frame}
+use Rattle.rss_buffer.specs.Waiting.{least_frames}
 use Rattle.rss_buffer.specs.Slots.{held_in, held_by, fixed_by}
 use Rattle.rss_base.specs.StoredPages.{slot_of}
 use Rattle.rss_buffer.specs.Buffered.{BufferView, NoneChanged, AreClean, StaysFixed, HoldsMapAt, IsAtStage, AreNotesOf, IsBuffer}

@@ -10,7 +10,7 @@ use Rattle.rss_frames.specs.Entries.{Held, AreDistinct, entries, entry}
 use Rattle.rss_shadow.specs.Maps.{Maps}
 use Rattle.rss_shadow.proofs.Counts.{Owners, one_page, Assigns-set, owned_within}
 use Rattle.rss_shadow.proofs.Owned.{mapped-owned}
-use Rattle.rss_buffer.specs.Frames.{frame_in, frame_of}
+use Rattle.rss_frames.specs.Frames.{frame_in, frame_of}
 use Rattle.rss_buffer.specs.Buffered.{AreFrames}
 
 -- a page that is apart from the first one is among the others

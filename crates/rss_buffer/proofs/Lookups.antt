@@ -1,23 +1,32 @@
 -- The frames of pages.
-use Rattle.std.proofs.Common.{◌≡◌, ◌≢◌, ◌<◌, ℕ, Bool, true, false, cond, inl, inr, List, [], ◌∷◌, length, Option, Some, None, IsSome, is_some, option_map, refl, sym, ◌∙◌, ap, subst}
+use Rattle.std.proofs.Common.{◌≡◌, ◌≢◌, ◌+◌, ◌<◌, ℕ, Bool, true, false, cond, inl, inr, List, [], ◌∷◌, length, Option, Some, None, IsSome, is_some, option_map, refl, sym, ◌∙◌, ap, subst}
 use Rattle.std.proofs.Math.Path.{fun_ext}
-use Rattle.std.proofs.lemmas.Bool.{cases_Bool, cond-false}
+use Rattle.std.proofs.lemmas.Bool.{cases_Bool}
 use Rattle.std.proofs.lemmas.Option.{same_Some}
 use Rattle.rss_base.specs.declared.key.PageKey.{PageKey}
+use Rattle.std.specs.List.{slice_range}
+use Rattle.rss_base.specs.DiskRule.{Disk}
 use Rattle.rss_base.specs.Paged.{is_same}
+use Rattle.rss_base.specs.Steps.{with_bytes}
 use Rattle.rss_base.proofs.Keys.{is_same-true, is_same-itself, is_same-other}
 use Rattle.rss_frames.specs.State.{State}
-use Rattle.rss_frames.specs.Entries.{Held, Shows, AreDistinct, IsEntry, entry, others, bytes_of, changed_to, fronted, settled, entries, eldest, newest, name_of}
-use Rattle.rss_frames.specs.Lending.{both_changed}
-use Rattle.std.specs.Option.{OnSome}
-use Rattle.std.specs.Prelude.{IfSome, IfNone, Result, Ok, Err, OnOk, OnErr}
+use Rattle.rss_frames.specs.Entries.{Held, Shows, AreDistinct, IsEntry, entry, others, bytes_of, changed_to, fronted, written, both_changed, settled, entries, eldest, newest, name_of}
+use Rattle.std.specs.Prelude.{Result, Ok, Err, OnErr}
 use Rattle.rss_buffer.specs.Gathered.{IsInFrame}
 use Rattle.rss_frames.specs.Entries.{unchanged as unmarked}
 use Rattle.rss_frames.proofs.Looked.{entry_key, entry_others, entry_first, entry_new, entry_fronted, entry_settled, entry_eldest, none_eldest, entry_newest, newest_fronted, newest_apart}
-use Rattle.rss_buffer.specs.Frames.{Frame, FrameOf, frame_of, frame_among, frame_in, with_frame, IsNewest}
-use Rattle.rss_buffer.specs.Buffered.{with_unchanged}
+use Rattle.rss_frames.specs.Frames.{Frame, FrameOf, frame_of, frame_among, frame_in, IsNewest, ReadsIn, CopiesFrame}
+use Rattle.rss_buffer.specs.Buffered.{unchanged}
 
 -- ---- the frames after a change at one page
+
+-- the same frames, but that this page has this one, or none
+abbrev pub with_frame : FrameOf → PageKey → Option Frame → FrameOf
+with_frame frames key frame other = cond (is_same other key) frame (frames other)
+
+-- the same frames, but that this page, where it is in memory, stands in its slot now
+abbrev pub with_unchanged : FrameOf → PageKey → FrameOf
+with_unchanged frames key = with_frame frames key (option_map unchanged (frames key))
 
 pub with_frame-same : (frames : FrameOf) (key : PageKey) (frame : Option Frame) → with_frame frames key frame key ≡ frame
 with_frame-same frames key frame = rw (is_same-itself key)
@@ -93,17 +102,32 @@ pub bytes_frame : (o : Option Held) (bytes : List ℕ) → bytes_of o ≡ Some b
 bytes_frame None bytes is = absurd (cc)
 bytes_frame (Some e) bytes is = (frame_of e, refl, same_Some _ _ is)
 
--- a frame that was put where none was, and dropped again
-pub among_dropped : (e : Held) (es : List Held) → frame_among es e.key ≡ None → frame_among (others e.key (e ∷ es)) ≡ frame_among es
-among_dropped e es none = among_others e.key (e ∷ es) ∙ fun_ext (λ other. elim (cases_Bool (is_same other e.key)) [
-  | inl same ↦ rw same (sym none ∙ ap (frame_among es) (sym (is_same-true other e.key same)))
-  | inr off ↦ rw off (ap (λ (f : FrameOf). f other) (among_new e es) ∙ cond-false (is_same other e.key) _ _ off)
-])
-
 -- ---- the same of frames that show their entries
 
 pub in_shown : {s : State} {es : List Held} {n : ℕ} → Shows s es n → frame_in s ≡ frame_among es
 in_shown shows = ap frame_among shows.are
+
+-- the same frames, but for the page that was put, that came, that was taken out, that was used, or that was settled
+module _ (s : State) (key : PageKey) {now : State} {n : ℕ} where
+  pub put_shown : {bytes : List ℕ} → Shows now (written key bytes (entries s)) n → frame_in now ≡ with_frame (frame_in s) key (Some (record { page = bytes; changed = true }))
+  put_shown {bytes = bytes} shows = in_shown shows ∙ among_first key (changed_to key bytes) (entries s) refl
+
+  pub gone_shown : Shows now (others key (entries s)) n → frame_in now ≡ with_frame (frame_in s) key None
+  gone_shown shows = in_shown shows ∙ among_others key (entries s)
+
+  pub used_shown : Shows now (fronted key (entries s)) n → frame_in now ≡ frame_in s
+  used_shown shows = in_shown shows ∙ among_fronted key (entries s)
+
+  pub settled_shown : Shows now (settled key (entries s)) n → frame_in now ≡ with_unchanged (frame_in s) key
+  settled_shown shows = in_shown shows ∙ among_settled key (entries s)
+
+pub came_shown : {key : PageKey} {at : ℕ} {disk : Disk} {s now : State} (came : ReadsIn key at disk s now) → frame_in now ≡ with_frame (frame_in s) key (Some (record { page = came.bytes; changed = false }))
+came_shown {s = s} came = ap frame_among came.now ∙ among_new _ (entries s)
+
+pub copied_shown : {from to : PageKey} {from_at to_at count : ℕ} {s now : State} → from ≢ to → (copied : CopiesFrame from from_at to to_at count s now)
+    → frame_in now ≡ with_frame (frame_in s) to (Some (record { page = with_bytes copied.bytes to_at (slice_range copied.source.page from_at (from_at + count)); changed = true }))
+copied_shown {from = from} {to = to} {s = s} apart copied =
+    in_shown copied.now ∙ among_both from to copied.source.changed _ copied.source.page (entries s) apart copied.from_there
 
 pub none_shown : {s : State} {n : ℕ} → Shows s [] n → (key : PageKey) → frame_in s key ≡ None
 unfolding entry
@@ -122,61 +146,48 @@ newest_there s key is = by (newest (entries s)) refl is
 pub newest_shown : {s : State} {es : List Held} {n : ℕ} {key : PageKey} → Shows s es n → option_map (λ e. e.key) (newest es) ≡ Some key → IsNewest key s
 newest_shown shows is = ap (λ (es : List Held). option_map (λ e. e.key) (newest es)) shows.are ∙ is
 
-pub some_from : {T : Type 0} (o : Option T) → is_some o ≡ true → (x : T) × (o ≡ Some x)
-some_from None is = absurd (cc)
-some_from (Some x) is = (x, refl)
-
 pub none_from : {T : Type 0} (o : Option T) → is_some o ≡ false → o ≡ None
 none_from None is = refl
 none_from (Some x) is = absurd (cc)
 
-pub newest_touched : {s : State} {n : ℕ} {key : PageKey} (es : List Held) → Shows s (fronted key es) n → (e : Held) × (entry key es ≡ Some e) → IsNewest key s
-newest_touched {key = key} es shows found =
-    newest_shown shows (ap (option_map (λ e. e.key)) (newest_fronted key es found.0 found.1) ∙ ap Some (entry_key key es found.0 found.1))
-
-pub some_entry : (o : Option Held) → IsSome (option_map frame_of o) → IsSome o
-some_entry None some = absurd (cc)
-some_entry (Some e) some = refl
-
-pub is_some_entry : (o : Option Held) → is_some o ≡ is_some (option_map frame_of o)
-is_some_entry None = refl
-is_some_entry (Some e) = refl
+pub newest_used : (s : State) (key : PageKey) {now : State} {n : ℕ} → Shows now (fronted key (entries s)) n → IsSome (frame_in s key) → IsNewest key now
+newest_used s key {now} shows = by (entry key (entries s)) refl
+  where
+    by : (o : Option Held) → entry key (entries s) ≡ o → IsSome (option_map frame_of o) → IsNewest key now
+    by None is there = absurd (cc)
+    by (Some e) is there = newest_shown shows (ap (option_map (λ e. e.key)) (newest_fronted key (entries s) e is) ∙ ap Some (entry_key key (entries s) e is))
 
 -- ---- the page that wasn't used for the longest time
 
-pub eldest_there : (es : List Held) (r : Option (PageKey × Bool)) → AreDistinct es → r ≡ option_map name_of (eldest es) → IfSome r (λ name. IsInFrame (frame_among es) name.0 name.1)
-eldest_there es r apart is = subst (λ (o : Option (PageKey × Bool)). IfSome o (λ name. IsInFrame (frame_among es) name.0 name.1)) (sym is) (by (eldest es) refl)
+pub eldest_none : (es : List Held) → None ≡ option_map name_of (eldest es) → es ≡ []
+eldest_none es = by (eldest es) refl
   where
-    by : (o : Option Held) → eldest es ≡ o → IfSome (option_map name_of o) (λ name. IsInFrame (frame_among es) name.0 name.1)
-    by None last = tt
-    by (Some e) last = record { frame = frame_of e; there = ap (option_map frame_of) (entry_eldest es e apart last); mark = refl }
+    by : (o : Option Held) → eldest es ≡ o → None ≡ option_map name_of o → es ≡ []
+    by None last is = none_eldest es last
+    by (Some e) last is = absurd (cc)
 
-pub eldest_none : (es : List Held) (r : Option (PageKey × Bool)) → r ≡ option_map name_of (eldest es) → IfNone r (es ≡ [])
-eldest_none es r is = subst (λ (o : Option (PageKey × Bool)). IfNone o (es ≡ [])) (sym is) (by (eldest es) refl)
-  where
-    by : (o : Option Held) → eldest es ≡ o → IfNone (option_map name_of o) (es ≡ [])
-    by None last = none_eldest es last
-    by (Some e) last = tt
+module _ (es : List Held) (key : PageKey) (changed : Bool) (distinct : AreDistinct es) (is : Some (key, changed) ≡ option_map name_of (eldest es)) where
+  the_eldest : (e : Held) × (eldest es ≡ Some e) × ((key, changed) ≡ name_of e)
+  the_eldest = by (eldest es) refl is
+    where
+      by : (o : Option Held) → eldest es ≡ o → Some (key, changed) ≡ option_map name_of o → (e : Held) × (eldest es ≡ Some e) × ((key, changed) ≡ name_of e)
+      by None last same = absurd (cc)
+      by (Some e) last same = (e, last, same_Some _ _ same)
 
-pub eldest_apart : (es : List Held) (r : Option (PageKey × Bool)) → AreDistinct es → r ≡ option_map name_of (eldest es) → IfSome r (λ name. 1 < length es → option_map (λ e. e.key) (newest es) ≡ Some name.0 → ⊥)
-eldest_apart es r apart is = subst (λ (o : Option (PageKey × Bool)). IfSome o (λ name. 1 < length es → option_map (λ e. e.key) (newest es) ≡ Some name.0 → ⊥)) (sym is) (by (eldest es) refl)
-  where
-    first : (old : Held) → eldest es ≡ Some old → 1 < length es → (o : Option Held) → newest es ≡ o → option_map (λ e. e.key) o ≡ Some old.key → ⊥
-    first old last two None is same = absurd (cc)
-    first old last two (Some new) is same = newest_apart es new old apart two is last (same_Some _ _ same)
+  pub eldest_there : IsInFrame (frame_among es) key changed
+  eldest_there =
+      let name = the_eldest.2 in
+      let there : entry key es ≡ Some the_eldest.0 = ap (λ (n : PageKey × Bool). entry n.0 es) name ∙ entry_eldest es the_eldest.0 distinct the_eldest.1 in
+      record { frame = frame_of the_eldest.0; there = ap (option_map frame_of) there; mark = ap (λ (n : PageKey × Bool). n.1) (sym name) }
 
-    by : (o : Option Held) → eldest es ≡ o → IfSome (option_map name_of o) (λ name. 1 < length es → option_map (λ e. e.key) (newest es) ≡ Some name.0 → ⊥)
-    by None last = tt
-    by (Some old) last = λ two. first old last two (newest es) refl
+  pub eldest_apart : 1 < length es → option_map (λ e. e.key) (newest es) ≡ Some key → ⊥
+  eldest_apart two = by (newest es) refl
+    where
+      by : (o : Option Held) → newest es ≡ o → option_map (λ e. e.key) o ≡ Some key → ⊥
+      by None first same = absurd (cc)
+      by (Some new) first same = newest_apart es new the_eldest.0 distinct two first the_eldest.1 (same_Some _ _ same ∙ ap (λ (n : PageKey × Bool). n.0) the_eldest.2)
 
 -- ---- results
-
-pub on_ok : {T E P : Type 0} (result : Result T E) → P → OnOk result P
-on_ok (Ok x) p = p
-on_ok (Err e) p = tt
-
-pub on_some : {A P : Type 0} {o : Option A} {x : A} → o ≡ Some x → OnSome o P → P
-on_some {P = P} is has = subst (λ o. OnSome o P) is has
 
 pub on_err : {T E P : Type 0} (result : Result T E) → P → OnErr result P
 on_err (Ok x) p = tt

@@ -14,12 +14,14 @@ use Rattle.rss_base.specs.declared.key.PageKey.{PageKey}
 use Rattle.rss_base.proofs.Keys.{is_same-true, is_same-itself}
 use Rattle.rss_base.proofs.Moments.{writes_among}
 use Rattle.rss_shadow.proofs.Owned.{mapped-owned}
-use Rattle.rss_buffer.specs.Frames.{Frame, FrameOf, is_changed, waiting_in}
+use Rattle.rss_frames.specs.Frames.{Frame, FrameOf}
+use Rattle.rss_buffer.specs.Waiting.{is_changed, waiting_in}
 use Rattle.rss_buffer.specs.declared.stage.Stage.TheVariants.{Changing, Saved, Switched}
 use Rattle.rss_buffer.specs.Slots.{held_in, held_by}
-use Rattle.rss_buffer.specs.Buffered.{BufferView, NoneChanged, AreFrames, AreClean, IsAtStage, IsBuffer, IsLoose, held_of, unchanged, with_unchanged, WritesLoose, KeepsPages}
+use Rattle.rss_buffer.specs.Buffered.{BufferView, NoneChanged, AreFrames, AreClean, IsAtStage, IsBuffer, IsLoose, held_of, unchanged, WritesLoose, KeepsPages}
 use Rattle.rss_buffer.specs.Gathered.{IsChangedAt, IsGathered, HasSlotAmong, AreSettled}
 use Rattle.rss_buffer.proofs.Loose.{IsLoose-slot}
+use Rattle.rss_buffer.proofs.Lookups.{with_unchanged}
 use Rattle.rss_buffer.proofs.Turns.{held-same, held_in-same, IsBuffer-writes, KeepsPages-writes}
 use Rattle.rss_buffer.proofs.Waits.{changed-waits, clean-waits, unchanged-clean, AreWaiting}
 

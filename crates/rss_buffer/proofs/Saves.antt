@@ -17,7 +17,8 @@ use Rattle.rss_base.specs.declared.key.PageKey.{PageKey}
 use Rattle.rss_base.proofs.Moments.{rises_since, writes_among, writes_then}
 use Rattle.rss_pagemap.proofs.Owners.{owned_within}
 use Rattle.rss_shadow.specs.Maps.{Maps}
-use Rattle.rss_buffer.specs.Frames.{Frame, FrameOf, waiting_in}
+use Rattle.rss_frames.specs.Frames.{Frame, FrameOf}
+use Rattle.rss_buffer.specs.Waiting.{waiting_in}
 use Rattle.rss_buffer.specs.Saving.{SavingStep, SavingCall}
 use Rattle.rss_buffer.specs.Views.{pages_view, saving_view}
 use Rattle.rss_buffer.specs.declared.stage.Stage.{Stage}

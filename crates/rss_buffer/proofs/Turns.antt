@@ -16,14 +16,15 @@ use Rattle.rss_base.specs.declared.key.PageKey.{PageKey}
 use Rattle.rss_base.proofs.Moments.{only_stays, reads_none, reads_then, writes_none, writes_nothing, writes_then}
 use Rattle.rss_notes.specs.Notes.{NotesView}
 use Rattle.rss_shadow.specs.Maps.{Maps}
-use Rattle.rss_buffer.specs.Frames.{Frame, FrameOf, with_frame, waiting_in}
+use Rattle.rss_frames.specs.Frames.{Frame, FrameOf}
+use Rattle.rss_buffer.specs.Waiting.{waiting_in}
 use Rattle.rss_buffer.specs.declared.stage.Stage.{Stage}
 use Rattle.rss_buffer.specs.Slots.{held_in, held_by}
 use Rattle.rss_base.specs.StoredPages.{slot_of, mapped_by}
 use Rattle.rss_buffer.specs.Buffered.{BufferView, NoneChanged, AreFrames, AreClean, StaysFixed, IsAtStage, AreLaidOut, AreNotesOf, IsBuffer, held_of, WritesLoose, KeepsPages, MovesPages, WritesPages}
 use Rattle.rss_base.proofs.Calls.{leaves_then, leaves_rests}
 use Rattle.rss_base.proofs.Keys.{is_same-true, is_same-itself, owner_of-slot_of}
-use Rattle.rss_buffer.proofs.Lookups.{with_frame-same}
+use Rattle.rss_buffer.proofs.Lookups.{with_frame, with_frame-same}
 use Rattle.rss_shadow.proofs.Owned.{mapped-owned}
 use Rattle.rss_buffer.proofs.Waits.{waits-less, waits-alike, none-waits, none-among, settles-rests, settles-then, settles-count, settles-writes}
 use Rattle.rss_buffer.proofs.Loose.{StaysFixed-writes, LeavesFixed-writes}

@@ -5,7 +5,9 @@ use Rattle.std.proofs.lemmas.Bool.{cases_Bool, cond-true, cond-false}
 use Rattle.rss_buffer.proofs.Cuts.{IsLeft, AreApart, left_of}
 use Rattle.rss_base.specs.Paged.{Mapped, is_same, with_mapped, AreAmong, HasEach, WritesWaiting}
 use Rattle.rss_base.specs.declared.key.PageKey.{PageKey}
-use Rattle.rss_buffer.specs.Frames.{Frame, FrameOf, with_frame, is_changed, waiting_in, Settles}
+use Rattle.rss_frames.specs.Frames.{Frame, FrameOf}
+use Rattle.rss_buffer.proofs.Lookups.{with_frame}
+use Rattle.rss_buffer.specs.Waiting.{is_changed, waiting_in, Settles}
 use Rattle.rss_buffer.specs.Buffered.{NoneChanged, unchanged}
 
 -- ---- after a change at one page

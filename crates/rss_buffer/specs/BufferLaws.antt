@@ -1,5 +1,5 @@
 -- The laws of pages, for those of a buffer.
-use Rattle.std.proofs.Common.{◌≡◌, ℕ, ◌+◌, true, false, List, length, Option, Some, None, refl, sym, ◌∙◌, ap, subst, arith}
+use Rattle.std.proofs.Common.{◌≡◌, ℕ, ◌+◌, ◌^◌, ◌<◌, true, false, List, length, Option, Some, None, refl, sym, ◌∙◌, ap, subst, arith}
 use Rattle.std.specs.Prelude.{is_some, is_none, option_map, unwrap_or}
 use Rattle.rss_base.specs.DiskRule.{Pages, page, IsTold, Leaves}
 use Rattle.rss_base.specs.PageMap.{IsKey, owner_of}
@@ -12,7 +12,8 @@ use Rattle.rss_base.proofs.Keys.{owner_of-slot_of, the_slot, the_number}
 use Rattle.rss_notes.specs.Marks.{Marked, told}
 use Rattle.rss_notes.proofs.Marking.{noted_mapped, mapped_space}
 use Rattle.rss_shadow.specs.Maps.{Maps}
-use Rattle.rss_buffer.specs.Frames.{Frame, FrameOf, is_changed, waiting_in}
+use Rattle.rss_frames.specs.Frames.{Frame, FrameOf}
+use Rattle.rss_buffer.specs.Waiting.{is_changed, waiting_in}
 use Rattle.rss_buffer.specs.Slots.{told_pages, held_in, fixed_by}
 use Rattle.rss_buffer.specs.Buffered.{BufferView, AreNotesOf, IsBuffer, AreFrames, held_of}
 use Rattle.rss_buffer.specs.Saving.{changed_by, AreSaveable}
@@ -27,7 +28,7 @@ changed_mapped maps key is = by (slot_of maps.current key) is
     by (Some slot) is = refl
 
 -- a page with such a slot was changed
-pub changed_at : (maps : Maps) (key : PageKey) (slot : ℕ) → slot_of maps.current key ≡ Some slot → owner_of maps.shadow slot ≡ None → changed_by maps key ≡ true
+changed_at : (maps : Maps) (key : PageKey) (slot : ℕ) → slot_of maps.current key ≡ Some slot → owner_of maps.shadow slot ≡ None → changed_by maps key ≡ true
 changed_at maps key slot at free =
     ap (λ (o : Option ℕ). unwrap_or (option_map (λ slot. is_none (owner_of maps.shadow slot)) o) false) at
     ∙ ap (λ (o : Option PageKey). is_none o) free
@@ -59,6 +60,9 @@ module _ {view : BufferView} (buffer : IsBuffer view) where
   allowed_by key is =
       let slot = the_slot view.maps.current key is in
       buffer.laid_out.table.allowed slot.0 key (owner_of-slot_of view.maps.current key slot.0 slot.1)
+
+  pub few_by : length view.maps.current < 2 ^ 32
+  few_by = omega (arith, buffer.laid_out.table.most)
 
   pub counted_by : AreCounted (pages_view view)
   counted_by =

@@ -1,5 +1,5 @@
 -- What holds of a buffer between any two calls, and what each call within it passes on.
-use Rattle.std.specs.Prelude.{◌≡◌, ◌≢◌, ℕ, ◌+◌, ◌≤◌, Bool, true, false, List, length, Option, Some, None, option_map, Result, IfErr, OnOk}
+use Rattle.std.specs.Prelude.{◌≡◌, ◌≢◌, ℕ, ◌+◌, ◌≤◌, Bool, true, false, List, length, Option, Some, None, Result, IfErr, OnOk}
 use Rattle.rss_base.specs.Devices.{DeviceView, OnlyReads}
 use Rattle.rss_base.specs.DiskRule.{Disk, Pages, page, Told, IsTold, Leaves, LeavesOnly, WritesIn}
 use Rattle.rss_base.specs.Faults.{counted}
@@ -14,7 +14,8 @@ use Rattle.rss_base.specs.declared.fault.PageFault.TheVariants.{Device as Device
 use Rattle.rss_base.specs.declared.key.PageKey.{PageKey}
 use Rattle.rss_notes.specs.Notes.{NotesView}
 use Rattle.rss_shadow.specs.Maps.{Maps}
-use Rattle.rss_buffer.specs.Frames.{Frame, FrameOf, with_frame, least_frames, waiting_in, Settles}
+use Rattle.rss_frames.specs.Frames.{Frame, FrameOf}
+use Rattle.rss_buffer.specs.Waiting.{least_frames, waiting_in, Settles}
 use Rattle.rss_buffer.specs.declared.stage.Stage.{Stage}
 use Rattle.rss_buffer.specs.declared.stage.Stage.TheVariants.{Changing, Saved, Switched}
 use Rattle.rss_buffer.specs.Slots.{held_by, is_loose, fixed_by}
@@ -120,10 +121,6 @@ IsFilled view = view.room ≤ page_count view.maps.current
 -- the frame of a page that stands in its slot
 abbrev pub unchanged : Frame → Frame
 unchanged frame = record { page = frame.page; changed = false }
-
--- the same frames, but that this page, where it is in memory, stands in its slot now
-abbrev pub with_unchanged : FrameOf → PageKey → FrameOf
-with_unchanged frames key = with_frame frames key (option_map unchanged (frames key))
 
 -- ---- what each call within the crate passes on
 

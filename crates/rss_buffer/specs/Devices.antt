@@ -3,7 +3,7 @@ use Rattle.rss_base.specs.declared.device.Device.{Ghosts}
 use Rattle.rss_notes.specs.Marks.{told}
 use Rattle.rss_buffer.specs.declared.buffer.Buffer.{Buffer}
 use Rattle.rss_frames.specs.Entries.{room}
-use Rattle.rss_buffer.specs.Frames.{frame_in}
+use Rattle.rss_frames.specs.Frames.{frame_in}
 use Rattle.rss_buffer.specs.Buffered.{BufferView}
 
 module _ {D : Type 0} {g : Ghosts D} where
@@ -17,11 +17,11 @@ module _ {D : Type 0} {g : Ghosts D} where
     first = buffer.first_slot;
     maps = buffer.shadow;
     notes = told buffer.notes;
-    frames = frame_in buffer.frames.cache;
+    frames = frame_in buffer.frames;
     settled = buffer.settled;
     log_pages = buffer.log_pages;
     area = buffer.area;
     stage = buffer.stage;
     asks = buffer.asks;
-    room = room buffer.frames.cache;
+    room = room buffer.frames;
   }

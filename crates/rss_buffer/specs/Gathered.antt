@@ -3,7 +3,7 @@ use Rattle.std.specs.Prelude.{◌≡◌, ◌⊎◌, ℕ, ◌+◌, ◌<◌, Bool,
 use Rattle.rss_base.specs.DiskRule.{page, IsWithin}
 use Rattle.rss_base.specs.PageMap.{owner_of}
 use Rattle.rss_base.specs.declared.key.PageKey.{PageKey}
-use Rattle.rss_buffer.specs.Frames.{Frame, FrameOf}
+use Rattle.rss_frames.specs.Frames.{Frame, FrameOf}
 use Rattle.rss_buffer.specs.Buffered.{unchanged}
 
 -- where the page of a slot is in memory, it stands in the slot as well

@@ -5,7 +5,7 @@ pub use Rattle.rss_base.specs.PageMap
 pub use Rattle.rss_base.specs.Paged
 pub use Rattle.rss_base.specs.StoredPages
 pub use Rattle.rss_shadow.specs.Maps
-pub mod Frames
+pub mod Waiting
 pub mod Slots
 pub mod Buffered
 pub mod Gathered

@@ -5,7 +5,7 @@ use Rattle.rss_base.specs.Layout.{map_pages, map_at}
 use Rattle.rss_base.specs.declared.key.PageKey.{PageKey}
 use Rattle.rss_buffer.specs.declared.stage.Stage.{Stage}
 use Rattle.rss_buffer.specs.declared.stage.Stage.TheVariants.{Changing, Saved, Switched}
-use Rattle.rss_buffer.specs.Frames.{FrameOf}
+use Rattle.rss_frames.specs.Frames.{FrameOf}
 use Rattle.rss_buffer.specs.Gathered.{IsWritten}
 use Rattle.rss_buffer.specs.Slots.{is_loose}
 

@@ -5,7 +5,7 @@ use Rattle.rss_base.specs.PageMap.{owner_of}
 use Rattle.rss_base.specs.Paged.{Held, Fixed}
 use Rattle.rss_base.specs.StoredPages.{slot_of}
 use Rattle.rss_base.specs.declared.key.PageKey.{PageKey}
-use Rattle.rss_buffer.specs.Frames.{Frame, FrameOf}
+use Rattle.rss_frames.specs.Frames.{Frame, FrameOf}
 
 -- what a read gives where the device tells it, and else no pages
 abbrev pub told_pages : Option Pages → Pages

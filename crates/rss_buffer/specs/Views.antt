@@ -3,7 +3,7 @@ use Rattle.std.specs.Prelude.{length, is_some}
 use Rattle.rss_base.specs.Steps.{PagesView}
 use Rattle.rss_base.specs.StoredPages.{mapped_by}
 use Rattle.rss_shadow.specs.Maps.{spare}
-use Rattle.rss_buffer.specs.Frames.{waiting_in}
+use Rattle.rss_buffer.specs.Waiting.{waiting_in}
 use Rattle.rss_buffer.specs.Slots.{fixed_by}
 use Rattle.rss_buffer.specs.Buffered.{BufferView, held_of}
 use Rattle.rss_buffer.specs.Saving.{SavingView, changed_by}

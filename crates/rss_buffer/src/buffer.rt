@@ -10,15 +10,15 @@ ghost use Rattle.rss_base.specs.declared.key.PageKey.{PageKey as Key};
 ghost use Rattle.rss_base.specs.declared.fault.OpenFault.TheVariants.{NoMemory as LacksMemory};
 ghost use Rattle.rss_notes.specs.Marks.{told};
 ghost use Rattle.rss_frames.specs.Entries.{room};
-ghost use Rattle.rss_buffer.specs.Frames.{frame_in};
+ghost use Rattle.rss_frames.specs.Frames.{frame_in};
 ghost use Rattle.rss_buffer.specs.Buffered.{HoldsMapAt, AreNotesOf, IsBuffer};
 ghost use Rattle.rss_buffer.specs.Saving.{IsFresh};
 ghost use Rattle.rss_buffer.specs.declared.stage.Stage.TheVariants.{Saved};
 
-use crate::frames::Frames;
 use crate::run::Run;
 use crate::{Saving, Stage};
 use rss_base::{Device, OpenFault, Pages, Root, Unopened, slots_at};
+use rss_frames::Frames;
 use rss_notes::Notes;
 use rss_pagemap::SlotTable;
 use rss_shadow::Shadow;
@@ -54,13 +54,13 @@ pub struct Buffer<D: Device> {
       first = first_slot;
       maps = shadow;
       notes = told notes;
-      frames = frame_in frames.cache;
+      frames = frame_in frames;
       settled = settled;
       log_pages = log_pages;
       area = area;
       stage = stage;
       asks = asks;
-      room = room frames.cache;
+      room = room frames;
     }) } by { Prim.hlevel (props, IsSegmentOf-prop) },
 }
 
@@ -127,8 +127,8 @@ fn new_parts(
     ensures maps { IfOk result (λ parts. parts.0 ≡ record { current = table; shadow = table }) }
     ensures notes { IfOk result (λ parts. AreNotesOf table (told parts.1)) }
     ensures none { IfOk result (λ parts. (key : Key) → (told parts.1).notes key ≡ None) }
-    ensures frames { IfOk result (λ parts. (key : Key) → frame_in parts.2.cache key ≡ None) }
-    ensures room { IfOk result (λ parts. room parts.2.cache ≡ frames) }
+    ensures frames { IfOk result (λ parts. (key : Key) → frame_in parts.2 key ≡ None) }
+    ensures room { IfOk result (λ parts. room parts.2 ≡ frames) }
 {
     let notes = new_notes(alloc, &table)?;
     let frames = Frames::new(alloc, frames)?;

@@ -3,7 +3,6 @@
 #![tactic(auto)]
 
 mod buffer;
-mod frames;
 mod pages;
 mod run;
 mod saving;

@@ -5,10 +5,11 @@ ghost use Rattle.rss_base.specs.declared.key.PageKey.{PageKey as Key};
 ghost use Rattle.rss_base.specs.Runs.{run_pages};
 ghost use Rattle.rss_base.specs.Sizes.{page_bytes};
 ghost use Rattle.rss_base.specs.Steps.{no_page, only, StaysIdle, PagesStep, PagesCall, CopiesBytes};
-ghost use Rattle.rss_buffer.specs.Frames.{HasRoom, IsNewest};
+ghost use Rattle.rss_frames.specs.Frames.{HasRoom, IsNewest};
 ghost use Rattle.rss_buffer.specs.Buffered.{asked_for, IsFilled, KeepsPages, MovesPages, WritesPages};
 ghost use Rattle.rss_buffer.specs.Gathered.{IsInFrame, IsUnchanged, IsWritten};
 
+use crate::run::settle;
 use crate::{Buffer, Stage};
 use rss_base::{Device, PAGE_BYTES, Page, PageFault, PageKey, Pages, Space};
 
@@ -35,7 +36,7 @@ impl<D: Device> Buffer<D> {
         }
         let at = self.first_slot + u64::from(slot);
         self.device.write_run(at, self.run.first(count))?;
-        self.frames.settle(owners, slot, count);
+        settle(&mut self.frames, owners, slot, count);
         Ok(())
     }
 
@@ -43,10 +44,10 @@ impl<D: Device> Buffer<D> {
     /// was changed. It isn't the one that was used last.
     fn make_room(&mut self) -> Result<(), PageFault>
         ensures full { OnErr result (IsFilled (buffer_view self.old)) }
-        ensures room { OnOk result (HasRoom self.new.frames.cache) }
+        ensures room { OnOk result (HasRoom self.new.frames) }
         ensures none_more { (key : Key) → (buffer_view self.old).frames key ≡ None
             → (buffer_view self.new).frames key ≡ None }
-        ensures stays { (key : Key) → IsNewest key self.old.frames.cache
+        ensures stays { (key : Key) → IsNewest key self.old.frames
             → IsSome ((buffer_view self.new).frames key) }
         ensures did { MovesPages (buffer_view self.old) (buffer_view self.new) result }
     {
@@ -84,7 +85,7 @@ impl<D: Device> Buffer<D> {
     fn make_room_for(&mut self, key: PageKey) -> Result<(), PageFault>
         ensures full { OnErr result (IsFilled (buffer_view self.old)) }
         ensures room { OnOk result
-            (HasRoom self.new.frames.cache ⊎ IsSome ((buffer_view self.new).frames key)) }
+            (HasRoom self.new.frames ⊎ IsSome ((buffer_view self.new).frames key)) }
         ensures did { MovesPages (buffer_view self.old) (buffer_view self.new) result }
     {
         if self.frames.has(key) {
@@ -96,8 +97,8 @@ impl<D: Device> Buffer<D> {
     /// Brings a page into memory that is asked for. The one that was used last before stays there.
     fn ask(&mut self, key: PageKey) -> Result<(), PageFault>
         requires { mapped_by self.old.shadow.current key ≡ true }
-        ensures newest { OnOk result (IsNewest key self.new.frames.cache) }
-        ensures stays { (other : Key) → IsNewest other self.old.frames.cache
+        ensures newest { OnOk result (IsNewest key self.new.frames) }
+        ensures stays { (other : Key) → IsNewest other self.old.frames
             → IsSome ((buffer_view self.new).frames other) }
         ensures keeps { KeepsPages (asked_for (buffer_view self.old)) (buffer_view self.new) }
         ensures idle { IsSome ((buffer_view self.old).frames key)
@@ -112,8 +113,8 @@ impl<D: Device> Buffer<D> {
     /// Brings a page into memory.
     fn bring(&mut self, key: PageKey) -> Result<(), PageFault>
         requires { mapped_by self.old.shadow.current key ≡ true }
-        ensures newest { OnOk result (IsNewest key self.new.frames.cache) }
-        ensures stays { (other : Key) → IsNewest other self.old.frames.cache
+        ensures newest { OnOk result (IsNewest key self.new.frames) }
+        ensures stays { (other : Key) → IsNewest other self.old.frames
             → IsSome ((buffer_view self.new).frames other) }
         ensures idle { IsSome ((buffer_view self.old).frames key)
             → StaysIdle (pages_view (buffer_view self.old)) (pages_view (buffer_view self.new)) }
@@ -129,8 +130,8 @@ impl<D: Device> Buffer<D> {
     fn read_in(&mut self, key: PageKey) -> Result<(), PageFault>
         requires mapped { mapped_by self.old.shadow.current key ≡ true }
         requires absent { (buffer_view self.old).frames key ≡ None }
-        ensures newest { OnOk result (IsNewest key self.new.frames.cache) }
-        ensures stays { (other : Key) → IsNewest other self.old.frames.cache
+        ensures newest { OnOk result (IsNewest key self.new.frames) }
+        ensures stays { (other : Key) → IsNewest other self.old.frames
             → IsSome ((buffer_view self.new).frames other) }
         ensures did { MovesPages (buffer_view self.old) (buffer_view self.new) result }
     {
@@ -165,9 +166,11 @@ impl<D: Device> Buffer<D> {
 impl<D: Device> Pages for Buffer<D> {
     ghost use Rattle.rss_buffer.specs.Views.{pages_view};
     ghost use Rattle.rss_buffer.specs.Devices.{buffer_view};
-    ghost use Rattle.rss_buffer.specs.BufferLaws.{stays_by, holds_by, allowed_by, counted_by, noted_by, changed_mapped};
+    ghost use Rattle.rss_buffer.specs.BufferLaws.{stays_by, holds_by, allowed_by, counted_by, few_by, noted_by, changed_mapped};
 
     ghost view = { λ b. pages_view (buffer_view b) };
+
+    ghost few_slots = { λ b. few_by b.holds };
 
     ghost reads_as_image = { λ b. D.reads_as_image b.device };
 

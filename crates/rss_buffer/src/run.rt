@@ -1,11 +1,13 @@
 // Pages that are written together.
 ghost use Rattle.std.specs.Prelude.{◌≡◌, ◌+◌, ◌<◌, ◌≤◌, length, take, IfSome, IfNone};
+ghost use Rattle.rss_base.specs.PageMap.{IsTable};
 ghost use Rattle.rss_base.specs.Runs.{run_pages};
-ghost use Rattle.rss_buffer.specs.Frames.{frame_in};
-ghost use Rattle.rss_buffer.specs.Gathered.{IsWritten, IsChangedAt, IsGathered};
+ghost use Rattle.rss_frames.specs.Entries.{room};
+ghost use Rattle.rss_frames.specs.Frames.{frame_in};
+ghost use Rattle.rss_buffer.specs.Gathered.{IsWritten, IsChangedAt, IsGathered, AreSettled};
 
-use crate::frames::Frames;
 use rss_base::{PAGE_BYTES, Page, RUN_PAGES};
+use rss_frames::Frames;
 use rss_pagemap::SlotTable;
 use std::alloc::{AllocError, Global};
 
@@ -29,10 +31,10 @@ impl Run {
         requires { slot < length owners.now }
         ensures few { result ≤ run_pages }
         ensures within { slot + result ≤ length owners.now }
-        ensures gathered { IsGathered owners.now (frame_in frames.now.cache) slot result
+        ensures gathered { IsGathered owners.now (frame_in frames.now) slot result
             self.new.pages.items }
         ensures none { result ≡ 0
-            → IsWritten owners.now (frame_in frames.now.cache) slot }
+            → IsWritten owners.now (frame_in frames.now) slot }
     {
         let most = (owners.slots() - slot).min(RUN_PAGES as u32);
         for count in 0..most {
@@ -57,9 +59,9 @@ impl Run {
 fn changed_page<'f>(owners: &SlotTable, frames: &'f Frames, slot: u32) -> Option<&'f Page>
     requires { slot < length owners.now }
     ensures some { IfSome result (λ page.
-        IsChangedAt owners.now (frame_in frames.now.cache) slot page.now) }
+        IsChangedAt owners.now (frame_in frames.now) slot page.now) }
     ensures none { IfNone result
-        (IsWritten owners.now (frame_in frames.now.cache) slot) }
+        (IsWritten owners.now (frame_in frames.now) slot) }
 {
     let key = owners.owner(slot)?;
     let (page, changed) = frames.get(key)?;
@@ -67,4 +69,18 @@ fn changed_page<'f>(owners: &SlotTable, frames: &'f Frames, slot: u32) -> Option
         return None;
     }
     Some(page)
+}
+
+/// Takes the pages of so many slots, from this one on, as ones that were written there.
+pub(crate) fn settle(frames: &mut Frames, owners: &SlotTable, slot: u32, count: u32)
+    requires within { slot + count ≤ length owners.now }
+    requires table { IsTable owners.now }
+    ensures settled { AreSettled owners.now slot count (frame_in frames.old) (frame_in frames.new) }
+    ensures room { room frames.new ≡ room frames.old }
+{
+    for at in slot..slot + count {
+        if let Some(key) = owners.owner(at) {
+            frames.settle(key);
+        }
+    }
 }

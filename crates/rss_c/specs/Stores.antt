@@ -16,9 +16,10 @@ use Rattle.rss_device.specs.Steps.{IsStep}
 use Rattle.rss_device.specs.declared.step.Step.{Step}
 use Rattle.rss_device.specs.declared.step_device.StepDevice.{StepDevice}
 use Rattle.rss_log.specs.Logs.{free_of}
-use Rattle.rss_model.specs.Calls.{calls_most}
+use Rattle.rss_stored.specs.Calls.{calls_most}
 use Rattle.rss_model.specs.Script.{IsNameWord}
-use Rattle.rss_model.specs.Store.{no_tables, OpensTo}
+use Rattle.rss_model.specs.Tables.{no_tables}
+use Rattle.rss_stored.specs.Store.{OpensTo}
 use Rattle.rss_session.specs.Sessions.{counts as counts_of}
 use Rattle.rss_session.specs.Weighing.{room_of}
 use Rattle.rss_store.specs.Formatted.{AreSizes, HoldsFormatted}

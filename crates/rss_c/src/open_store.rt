@@ -13,8 +13,8 @@ use rss_base::{OpenFault, PAGE_BYTES, Page, Place};
 use rss_buffer::Buffer;
 use rss_device::{StepDevice, Taken};
 use rss_line::{Names, read_name};
-use rss_model::{CALLS_MOST, Engine};
 use rss_rsi::{MOST_FRAMES, Rss, format, open};
+use rss_stored::{CALLS_MOST, Engine};
 use rss_top::{Status, run_line};
 use std::alloc::{AllocError, Global};
 

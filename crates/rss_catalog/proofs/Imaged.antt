@@ -1,6 +1,7 @@
 -- How many bytes an image has in the catalog, and what those bytes read as.
 use Rattle.std.proofs.Common.{◌≡◌, ℕ, ◌+◌, ◌-◌, ◌<◌, ◌^◌, Bool, true, false, List, [], ◌∷◌, ◌++◌, length, take, drop, get_or, replicate, Option, Some, None, refl, ◌∙◌, ap, arith, length-append}
 use Rattle.std.specs.Prelude.{◌==◌}
+use mir.Val.{bool_byte}
 use Rattle.std.specs.Int.{w32, to_be_bytes, from_be_bytes}
 use Rattle.std.proofs.lemmas.Nat.{from_be_bytes-to_be_bytes_4}
 use Rattle.std.proofs.lemmas.Bool.{cond-false}
@@ -44,9 +45,14 @@ image_long (Some entry) is =
 regroup : (a b c d e : List ℕ) → (((a ++ b) ++ c) ++ d) ++ e ≡ a ++ (b ++ (c ++ (d ++ e)))
 regroup a b c d e = simp append_assoc
 
-flag_back : (flag : Bool) → (flag_byte flag == 1) ≡ flag
+pub flag_back : (flag : Bool) → (flag_byte flag == 1) ≡ flag
 flag_back true = refl
 flag_back false = refl
+
+-- a flag as it is put
+pub flag_is : (flag : Bool) → bool_byte flag ≡ flag_byte flag
+flag_is true = refl
+flag_is false = refl
 
 entry_back : (entry : ImageEntry) → IsDrawn entry → image_entry_of (image_spelled (Some entry)) ≡ entry
 entry_back entry drawn =

@@ -8,7 +8,7 @@ use Rattle.std.proofs.lemmas.Bool.Decides.{Decides-eqb}
 use Rattle.std.proofs.lemmas.Option.{slice_get-map}
 use Rattle.std.proofs.lemmas.List.{length-drop, length-take-le, take-append-drop, drop_at, get_or-take, get_or_default}
 use Rattle.std.proofs.lemmas.List.Elements.{All-replicate, contains_decides}
-use Rattle.rss_base.specs.TupleTypes.{kinds, chosen}
+use Rattle.rss_base.specs.TupleTypes.{form_of, kinds, chosen}
 use Rattle.rss_base.specs.Listings.{IsFieldNumber, AreDifferent}
 use Rattle.rss_base.specs.declared.field.FieldDef.{FieldDef}
 use Rattle.rss_value.specs.Numbers.{IsNumberOf}
@@ -63,7 +63,7 @@ not_different numbers place low found different =
 
 -- ---- the key's width
 
-cons_kinds : (first : Option FieldDef) (rest : List FieldDef) → kinds (cons_option first rest) ≡ cons_option (option_map (λ field. field.kind) first) (kinds rest)
+cons_kinds : (first : Option FieldDef) (rest : List FieldDef) → kinds (cons_option first rest) ≡ cons_option (option_map form_of first) (kinds rest)
 cons_kinds None rest = refl
 cons_kinds (Some field) rest = refl
 
@@ -72,7 +72,7 @@ pub chosen_kinds : (numbers : List ℕ) (fields : List FieldDef) → kinds (chos
 chosen_kinds [] fields = refl
 chosen_kinds (number ∷ numbers) fields =
     cons_kinds (slice_get fields (number - 1)) (chosen numbers fields)
-    ∙ (λ i. cons_option (sym (slice_get-map (λ (field : FieldDef). field.kind) fields (number - 1)) i) (chosen_kinds numbers fields i))
+    ∙ (λ i. cons_option (sym (slice_get-map form_of fields (number - 1)) i) (chosen_kinds numbers fields i))
 
 -- numbers of fields, as they are said of a key
 pub numbers_of : (fields : List FieldDef) (numbers : List ℕ) → All (IsFieldNumber (length fields)) numbers → All (IsNumberOf fields) numbers

@@ -1,4 +1,5 @@
 pub mod Numbered
+pub mod Counts
 pub mod Plain
 pub mod Roles
 pub mod Listed

@@ -8,11 +8,12 @@ use Rattle.std.proofs.lemmas.List.{take_at, drop_at, append_assoc, length-replic
 use Rattle.std.proofs.Math.Seq.{drop-append-add}
 use Rattle.rss_base.specs.Names.{IsName}
 use Rattle.rss_base.specs.LogRecords.{place_bytes}
-use Rattle.rss_base.specs.Listings.{Listing, LinkFits, IsSpelled, link_spelled, parent_spelled}
+use Rattle.rss_base.specs.Listings.{Listing, LinkFits, IsSpelled, link_spelled, parent_spelled, flag_byte}
 use Rattle.rss_base.specs.declared.link.LinkEntry.{LinkEntry}
 use Rattle.rss_base.specs.declared.tid.Tid.{Tid}
 use Rattle.rss_catalog.specs.Reading.{parent_of, tid_of, place_of, link_entry_of, link_of}
 use Rattle.rss_catalog.proofs.Spelled.{name_long, name_begins, behind, drop_behind}
+use Rattle.rss_catalog.proofs.Imaged.{flag_back}
 
 -- a link as far as it is spelled
 pub record IsTied (link : LinkEntry) : Type 0 where
@@ -56,12 +57,12 @@ drop_parent parent rest k = ap (λ (n : ℕ). drop n (parent_spelled parent ++ r
 -- what is spelled in front of the zeros
 abbrev head_of : LinkEntry → List ℕ
 head_of link =
-    link.name.bytes ++ parent_spelled link.parent ++ link.child ∷ 0 ∷ []
+    link.name.bytes ++ parent_spelled link.parent ++ link.child ∷ flag_byte link.late ∷ []
     ++ place_bytes link.first ++ place_bytes link.last
 
 head_long : (link : LinkEntry) → length link.name.bytes ≡ 16 → length (head_of link) ≡ 32
 head_long link name =
-    let two : List ℕ = link.child ∷ 0 ∷ [] in
+    let two : List ℕ = link.child ∷ flag_byte link.late ∷ [] in
     length-append (link.name.bytes ++ parent_spelled link.parent ++ two ++ place_bytes link.first) (place_bytes link.last)
     ∙ omega (arith, length-append (link.name.bytes ++ parent_spelled link.parent ++ two) (place_bytes link.first), length-append (link.name.bytes ++ parent_spelled link.parent) two, length-append link.name.bytes (parent_spelled link.parent), name, parent_long link.parent, place_long link.first, place_long link.last)
 
@@ -79,10 +80,10 @@ regroup a b c d e f = simp append_assoc
 -- what stands behind the name
 abbrev tail_of : LinkEntry → List ℕ
 tail_of entry =
-    parent_spelled entry.parent ++ (entry.child ∷ 0 ∷ (place_bytes entry.first ++ (place_bytes entry.last ++ replicate (64 - length (head_of entry)) 0)))
+    parent_spelled entry.parent ++ (entry.child ∷ flag_byte entry.late ∷ (place_bytes entry.first ++ (place_bytes entry.last ++ replicate (64 - length (head_of entry)) 0)))
 
 whole_of : (entry : LinkEntry) → link_spelled (Some entry) ≡ entry.name.bytes ++ tail_of entry
-whole_of entry = regroup entry.name.bytes (parent_spelled entry.parent) (entry.child ∷ 0 ∷ []) (place_bytes entry.first) (place_bytes entry.last) (replicate (64 - length (head_of entry)) 0)
+whole_of entry = regroup entry.name.bytes (parent_spelled entry.parent) (entry.child ∷ flag_byte entry.late ∷ []) (place_bytes entry.first) (place_bytes entry.last) (replicate (64 - length (head_of entry)) 0)
 
 entry_back : (entry : LinkEntry) → IsTied entry → link_entry_of (link_spelled (Some entry)) ≡ entry
 entry_back entry tied =
@@ -91,16 +92,17 @@ entry_back entry tied =
     let zeros : List ℕ = replicate (64 - length (head_of entry)) 0 in
     let last : List ℕ = place_bytes entry.last ++ zeros in
     let first : List ℕ = place_bytes entry.first ++ last in
-    let rest : List ℕ = entry.child ∷ 0 ∷ first in
+    let rest : List ℕ = entry.child ∷ flag_byte entry.late ∷ first in
     let tail = tail_of entry in
     let parent : parent_of (get_or (name ++ tail) 16 0) (get_or (name ++ tail) 17 0) ≡ entry.parent = (λ i. parent_of (behind name tail 16 0 long refl i) (behind name tail 17 1 long refl i)) ∙ parent_back entry.parent rest in
     let child : get_or (name ++ tail) 18 0 ≡ entry.child = behind name tail 18 2 long refl ∙ past_parent entry.parent rest 0 in
+    let late : (get_or (name ++ tail) 19 0 == 1) ≡ entry.late = ap (λ (n : ℕ). n == 1) (behind name tail 19 3 long refl ∙ past_parent entry.parent rest 1) ∙ flag_back entry.late in
     let at_first : drop 20 (name ++ tail) ≡ first = drop_behind name tail 20 4 long refl ∙ drop_parent entry.parent rest 2 in
     let at_last : drop 26 (name ++ tail) ≡ last = drop_behind name tail 26 10 long refl ∙ drop_parent entry.parent rest 8 ∙ drop_at (place_bytes entry.first) last 6 (place_long entry.first) in
     let one : place_of (take 6 (drop 20 (name ++ tail))) ≡ entry.first = ap (λ (l : List ℕ). place_of (take 6 l)) at_first ∙ ap place_of (take_at (place_bytes entry.first) last 6 (place_long entry.first)) ∙ place_back entry.first tied.first in
     let two : place_of (take 6 (drop 26 (name ++ tail))) ≡ entry.last = ap (λ (l : List ℕ). place_of (take 6 l)) at_last ∙ ap place_of (take_at (place_bytes entry.last) zeros 6 (place_long entry.last)) ∙ place_back entry.last tied.last in
     ap link_entry_of (whole_of entry)
-    ∙ (λ i. record { name = record { bytes = take_at name tail 16 long i }; parent = parent i; child = child i; first = one i; last = two i })
+    ∙ (λ i. record { name = record { bytes = take_at name tail 16 long i }; parent = parent i; child = child i; late = late i; first = one i; last = two i })
 
 -- a link begins with its name
 first_of : (entry : LinkEntry) → IsTied entry → (get_or (link_spelled (Some entry)) 0 0 == 0) ≡ false
@@ -118,12 +120,12 @@ link_back (Some entry) is =
     cond-false (get_or bytes 0 0 == 0) None (Some (link_entry_of bytes)) first ∙ ap Some (entry_back entry tied)
 
 -- the parts of a link, put one behind another
-pub put_link : (link : LinkEntry) (old one two three four five new : List ℕ) → one ≡ old ++ link.name.bytes → two ≡ one ++ parent_spelled link.parent → three ≡ two ++ link.child ∷ 0 ∷ [] → four ≡ three ++ place_bytes link.first → five ≡ four ++ place_bytes link.last → new ≡ five ++ replicate 32 0
+pub put_link : (link : LinkEntry) (old one two three four five new : List ℕ) (flag : ℕ) → one ≡ old ++ link.name.bytes → two ≡ one ++ parent_spelled link.parent → flag ≡ flag_byte link.late → three ≡ two ++ link.child ∷ flag ∷ [] → four ≡ three ++ place_bytes link.first → five ≡ four ++ place_bytes link.last → new ≡ five ++ replicate 32 0
     → length link.name.bytes ≡ 16 → new ≡ old ++ link_spelled (Some link)
-put_link link old one two three four five new now_one now_two now_three now_four now_five now name =
+put_link link old one two three four five new flag now_one now_two same now_three now_four now_five now name =
     let zeros : 32 ≡ 64 - length (head_of link) = omega (arith, head_long link name) in
-    now ∙ ap (λ (l : List ℕ). l ++ replicate 32 0) (now_five ∙ ap (λ (l : List ℕ). l ++ place_bytes link.last) (now_four ∙ ap (λ (l : List ℕ). l ++ place_bytes link.first) (now_three ∙ ap (λ (l : List ℕ). l ++ link.child ∷ 0 ∷ []) now_two)))
-    ∙ (λ i. (((((now_one i ++ parent_spelled link.parent) ++ link.child ∷ 0 ∷ []) ++ place_bytes link.first) ++ place_bytes link.last) ++ replicate (zeros i) 0)) ∙ simp append_assoc
+    now ∙ ap (λ (l : List ℕ). l ++ replicate 32 0) (now_five ∙ ap (λ (l : List ℕ). l ++ place_bytes link.last) (now_four ∙ ap (λ (l : List ℕ). l ++ place_bytes link.first) (now_three ∙ ap (λ (l : List ℕ). l ++ link.child ∷ flag ∷ []) now_two)))
+    ∙ (λ i. (((((now_one i ++ parent_spelled link.parent) ++ link.child ∷ same i ∷ []) ++ place_bytes link.first) ++ place_bytes link.last) ++ replicate (zeros i) 0)) ∙ simp append_assoc
 
 -- a link that may be listed is one
 pub tied_of : (listing : Listing) (link : LinkEntry) → LinkFits listing link → IsTied link

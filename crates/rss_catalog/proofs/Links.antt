@@ -73,7 +73,7 @@ pub fits_with_ends : (listing : Listing) (number : ℕ) (first last : Option Tid
 fits_with_ends listing number first last link fits is is_first is_last =
     let within = numbered_within listing.links number link is in
     let fit = fits.paths.links number link is in
-    fits_with_link listing number (with_ends first last link) fits within.0 within.1 (record { name = fit.name; child = fit.child; parent = fit.parent; first = is_first; last = is_last })
+    fits_with_link listing number (with_ends first last link) fits within.0 within.1 (record { name = fit.name; child = fit.child; parent = fit.parent; first = is_first; last = is_last; early = fit.early })
     (λ k named. fits.paths.links_once k number link.name named (link_named listing number link is))
     (roles_kept listing.links number (with_ends first last link) link is (λ relation. refl) fits.paths.few_roles)
 

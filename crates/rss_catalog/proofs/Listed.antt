@@ -6,10 +6,10 @@ use Rattle.std.proofs.lemmas.Option.{none-some, same_Some}
 use Rattle.std.proofs.lemmas.List.{length-set, length-map, map-set, get_or_default}
 use Rattle.rss_base.specs.Sizes.{segments, images_most, roles_most}
 use Rattle.rss_base.specs.Names.{IsName}
-use Rattle.rss_base.specs.TupleTypes.{AreFields, kinds, is_kind, most_fields, chosen, key_width, most_key_width}
+use Rattle.rss_base.specs.TupleTypes.{AreFields, form_of, kinds, is_kind, most_fields, chosen, key_width, most_key_width}
 use Rattle.std.specs.List.{list_all}
 use Rattle.rss_base.specs.declared.field.FieldDef.{FieldDef}
-use Rattle.rss_base.specs.declared.value.FieldKind.{FieldKind}
+use Rattle.rss_base.specs.declared.value.FieldForm.{FieldForm}
 use Rattle.rss_base.specs.Listings.{Listing, numbered, with_number, segment_at, relation_at, image_at, link_at, has_role, names_of, IsNumberOf, IsUnlisted, IsLeastUnused, EntryFits, ImageFits, IsFieldNumber, field_numbers, PathsFit, ListingFits, with_segment, with_relation, with_image, with_count, with_root}
 use Rattle.rss_base.specs.declared.name.Name.{Name}
 use Rattle.rss_base.specs.declared.relation.RelationEntry.{RelationEntry}
@@ -433,9 +433,9 @@ segment_within listing relation places fit =
 pub few_of : (fields : List FieldDef) → AreFields fields → length fields ≤ most_fields
 few_of fields are =
     let count = length (kinds fields) in
-    let parts : ((nat_le 1 count && nat_le count most_fields) ≡ true) × (list_all is_kind (kinds fields) ≡ true) = and_parts _ _ are.formed in
+    let parts : ((nat_le 1 count && nat_le count most_fields) ≡ true) × (list_all (λ form. is_kind form.kind) (kinds fields) ≡ true) = and_parts _ _ are.formed in
     let few = and_parts (nat_le 1 count) (nat_le count most_fields) parts.0 in
-    omega (arith, leb-true count most_fields few.1, length-map {A = FieldDef} {B = FieldKind} fields (λ (field : FieldDef). field.kind))
+    omega (arith, leb-true count most_fields few.1, length-map {A = FieldDef} {B = FieldForm} fields form_of)
 
 -- a relation that was put at a place is safe, as the others were
 pub safe_put : (items : List (Option RelationEntry)) (number : ℕ) (item : Option RelationEntry) → 1 ≤ number → number ≤ length items → ((k : ℕ) (entry : RelationEntry) → numbered items k ≡ Some entry → IsSafe entry) → IfSome item IsSafe

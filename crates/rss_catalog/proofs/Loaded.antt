@@ -27,11 +27,12 @@ use Rattle.rss_base.specs.declared.key.PageKey.{PageKey}
 use Rattle.rss_base.specs.declared.key.Space.TheVariants.{System}
 use Rattle.rss_base.proofs.Looking.{checks_then, checks_as, checks_within}
 use Rattle.rss_catalog.specs.Catalogs.{IsCatalogPlace, Loads, none_pending}
-use Rattle.rss_catalog.specs.Reading.{pieces, segment_of, relation_of, entry_of, fields_of, HasFewFields}
+use Rattle.rss_catalog.specs.Reading.{pieces, segment_of, relation_of, entry_of, HasFewFields}
 use Rattle.rss_catalog.specs.Loading.{SpellsNone, IsFlawed, HasPage, LoadsSegments, Form, relation_form, image_form, link_form, page_with, part, HasForm, AddsPage, LoadsEntries}
 use Rattle.rss_catalog.specs.Checking.{listing_of}
 use Rattle.rss_catalog.proofs.Plain.{links_page_is, images_page_is}
 use Rattle.rss_catalog.proofs.Pieces.{length-pieces}
+use Rattle.rss_catalog.proofs.Spelled.{length-fields_of}
 use Rattle.rss_catalog.proofs.Read.{segments_back, relations_page_is}
 
 -- ---- a page
@@ -97,7 +98,7 @@ few_read : (bytes : List ℕ) → HasFewFields (relation_of bytes)
 few_read bytes entry is =
     let same = read_entry (get_or bytes 0 0 == 0) (entry_of bytes) entry is in
     let count = min (get_or bytes 17 0) 16 in
-    let long : length (fields_of count (drop 32 bytes)) ≡ count = length-map (pieces 18 count (drop 32 bytes)) _ ∙ length-pieces 18 count (drop 32 bytes) in
+    let long = length-fields_of (count - get_or bytes 18 0) count (drop 32 bytes) in
     omega (arith, long, ap (λ (e : RelationEntry). length e.fields) same)
 
 pub few_eight : (page : List ℕ) → All HasFewFields (map relation_of (pieces 512 8 page))

@@ -52,10 +52,14 @@ pieces_of f width xs rest (suc k) d all few =
     ∙ sym (map_more f xs k d (omega arith))
     ∙ ap (λ (n : ℕ). map f (take n xs)) (add-one k)
 
+-- a piece that was read at its place
+pub piece_is : {X : Type 0} (f : List ℕ → X) (width count at : ℕ) (bytes : List ℕ) (item : X) → at ≡ width * count → item ≡ f (take (at + width - at) (drop at bytes)) → item ≡ f (take width (drop (width * count) bytes))
+piece_is f width count at bytes item here is = is ∙ ap (λ (n : ℕ). f (take n (drop at bytes))) (omega arith) ∙ ap (λ (n : ℕ). f (take width (drop n bytes))) here
+
 -- one piece more was read
 pub piece_read : {X : Type 0} (f : List ℕ → X) (width count at : ℕ) (bytes : List ℕ) (so_far new : List X) (item : X) → so_far ≡ map f (pieces width count bytes) → new ≡ so_far ++ item ∷ [] → at ≡ width * count → item ≡ f (take (at + width - at) (drop at bytes)) → new ≡ map f (pieces width (count + 1) bytes)
 piece_read f width count at bytes so_far new item was now here is =
-    let read : item ≡ f (take width (drop (width * count) bytes)) = is ∙ ap (λ (n : ℕ). f (take n (drop at bytes))) (omega arith) ∙ ap (λ (n : ℕ). f (take width (drop n bytes))) here in
+    let read = piece_is f width count at bytes item here is in
     now ∙ (λ i. was i ++ read i ∷ []) ∙ sym (map_piece f width count bytes)
 
 -- and stands behind others

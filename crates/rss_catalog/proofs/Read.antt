@@ -15,7 +15,7 @@ use Rattle.rss_catalog.proofs.Numbered.{has_number}
 use Rattle.rss_catalog.proofs.Listed.{few_of}
 use Rattle.rss_catalog.proofs.Pieces.{pieces_of, length-pieces}
 use Rattle.rss_catalog.proofs.Plain.{images_page_is, links_page_is}
-use Rattle.rss_catalog.proofs.Spelled.{IsNamed, segment_long, segment_back, AreFormed, names_long, relation_long, relation_back}
+use Rattle.rss_catalog.proofs.Spelled.{IsNamed, segment_long, segment_back, AreFormed, marked_of, names_long, relation_long, relation_back}
 use Rattle.rss_catalog.proofs.Imaged.{AreDrawn, drawn_of, image_long, image_back}
 use Rattle.rss_catalog.proofs.Linked.{AreTied, tied_of, link_long, link_back}
 
@@ -27,7 +27,7 @@ named_at listing fits k d low name is = fits.segment_names (k + 1) name (has_num
 formed_at : (listing : Listing) → ListingFits listing → (k : ℕ) (d : Option RelationEntry) → k < length listing.relations → AreFormed (get_or listing.relations k d)
 formed_at listing fits k d low entry is =
     let fit = fits.relations (k + 1) entry (has_number listing.relations k d entry low is) in
-    record { name = fit.name; fields = names_long entry.fields fit.fields.names; few = few_of entry.fields fit.fields; live = fit.live }
+    record { name = fit.name; fields = names_long entry.fields fit.fields.names; few = few_of entry.fields fit.fields; live = fit.live; marked = marked_of entry.fields fit.fields.original }
 
 -- an image of a listing that fits can be read
 drawn_at : (listing : Listing) → ListingFits listing → (k : ℕ) (d : Option ImageEntry) → k < length listing.images → AreDrawn (get_or listing.images k d)

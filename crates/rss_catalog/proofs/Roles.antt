@@ -1,15 +1,15 @@
 -- What a relation has to do with links, and in how many it is.
-use Rattle.std.proofs.Common.{◌≡◌, ◌⊎◌, ℕ, ◌+◌, ◌-◌, ◌<◌, ◌≤◌, Bool, true, false, cond, List, [], ◌∷◌, length, get_or, Option, Some, None, All, refl, sym, ◌∙◌, ap, subst, inl, inr, arith}
+use Rattle.std.proofs.Common.{◌≡◌, ◌⊎◌, ℕ, ◌+◌, ◌-◌, ◌<◌, ◌≤◌, Bool, true, false, cond, List, [], length, get_or, Option, Some, None, refl, sym, ◌∙◌, ap, subst, inl, inr, arith}
 use Rattle.std.specs.Prelude.{count_by, IfSome, is_some, ◌==◌}
 use Rattle.std.proofs.lemmas.Bool.{cases_Bool, eq-eqb, eqb-true, or_left, or_right, or_cases, false_from_ne_true}
-use Rattle.std.proofs.lemmas.List.Sums.{sum_by-cons, sum_by-set}
-use Rattle.std.proofs.lemmas.List.Elements.{All-head, All-tail}
+use Rattle.std.proofs.lemmas.List.Sums.{sum_by-set}
 use Rattle.rss_base.specs.Listings.{Listing, LinkFits, numbered, with_number, relation_at, link_at, has_role, is_parent_in, roles_of}
 use Rattle.rss_base.specs.declared.link.LinkEntry.{LinkEntry}
 use Rattle.rss_base.specs.declared.relation.RelationEntry.{RelationEntry}
 use Rattle.rss_catalog.specs.Catalogs.{HasRoleLeft, IsSafeLink}
 use Rattle.rss_catalog.specs.Checking.{AreLinksIn, HaveFewRoles, LinkFitsIn, listing_of}
 use Rattle.rss_catalog.proofs.Numbered.{numbered_at, numbered_within, has_number, used_has}
+use Rattle.rss_catalog.proofs.Counts.{counts_none}
 
 -- ---- the relations of a link
 
@@ -61,7 +61,7 @@ safe_link_moves old new link safe listed = record {
 pub link_moves : (old new : Listing) (link : LinkEntry) → LinkFits old link → ((number : ℕ) → has_role number (Some link) ≡ true → is_some (relation_at old number) ≡ true → is_some (relation_at new number) ≡ true) → LinkFits new link
 link_moves old new link fit listed =
     let safe = safe_link_moves old new link (safe_link old link fit) listed in
-    record { name = fit.name; child = safe.child; parent = safe.parent; first = safe.first; last = safe.last }
+    record { name = fit.name; child = safe.child; parent = safe.parent; first = safe.first; last = safe.last; early = fit.early }
 
 -- and so where the relations are the same
 pub link_stays : (old new : Listing) (link : LinkEntry) → new.relations ≡ old.relations → LinkFits old link → LinkFits new link
@@ -73,21 +73,13 @@ link_stays old new link same fit = link_moves old new link fit (λ number has li
 abbrev bit : ℕ → Option LinkEntry → ℕ
 bit number link = cond (has_role number link) 1 0
 
--- in none that has no part for it
-no_roles : (number : ℕ) (links : List (Option LinkEntry)) → All (λ link. has_role number link ≡ false) links → count_by (has_role number) links ≡ 0
-no_roles number [] all = refl
-no_roles number (link ∷ links) all =
-    let here = All-head (λ (o : Option LinkEntry). has_role number o ≡ false) link links all in
-    let rest = no_roles number links (All-tail (λ (o : Option LinkEntry). has_role number o ≡ false) link links all) in
-    sum_by-cons (bit number) link links ∙ (λ i. cond (here i) 1 0 + rest i)
-
 -- what is no relation is in no link
 part_off : (entries : List (Option RelationEntry)) (number : ℕ) (link : Option LinkEntry) → ((entry : LinkEntry) → link ≡ Some entry → LinkFitsIn entries entry) → (is_some (numbered entries number) ≡ true → ⊥) → has_role number link ≡ false
 part_off entries number None fit none = refl
 part_off entries number (Some link) fit none = false_from_ne_true _ (λ has. none (role_listed (listing_of [] entries [] []) link number (safe_link _ link (fit link refl)) has))
 
 pub roles_off : (entries : List (Option RelationEntry)) (links : List (Option LinkEntry)) (number : ℕ) → AreLinksIn entries links → (is_some (numbered entries number) ≡ true → ⊥) → count_by (has_role number) links ≡ 0
-roles_off entries links number each none = no_roles number links (λ k d low. part_off entries number (get_or links k d) (λ entry is. each (k + 1) entry (has_number links k d entry low is)) none)
+roles_off entries links number each none = counts_none (has_role number) links (λ k d low. part_off entries number (get_or links k d) (λ entry is. each (k + 1) entry (has_number links k d entry low is)) none)
 
 -- so it is enough to count those of the relations
 pub few_all : (entries : List (Option RelationEntry)) (links : List (Option LinkEntry)) (count : ℕ) → AreLinksIn entries links → length entries ≤ count → ((k : ℕ) → k < count → count_by (has_role (k + 1)) links ≤ 16) → HaveFewRoles links

@@ -1,22 +1,22 @@
 -- How many bytes each part of the catalog has, and what those bytes read as.
-use Rattle.std.proofs.Common.{◌≡◌, ℕ, ◌+◌, ◌-◌, ◌*◌, ◌<◌, ◌≤◌, ◌^◌, false, List, [], ◌∷◌, ◌++◌, length, take, drop, get_or, replicate, Option, Some, None, All, refl, ◌∙◌, ap, subst, arith, length-append}
-use Rattle.std.specs.Prelude.{map, flat_map, min, ◌==◌}
+use Rattle.std.proofs.Common.{◌≡◌, ℕ, zero, suc, ◌+◌, ◌-◌, ◌*◌, ◌<◌, ◌≤◌, ◌^◌, Bool, false, List, [], ◌∷◌, ◌++◌, length, take, drop, get_or, replicate, Option, Some, None, All, refl, sym, ◌∙◌, ap, subst, arith, add-one, length-append}
+use Rattle.std.specs.Prelude.{flat_map, min, nat_le, ◌==◌}
 use Rattle.std.specs.Int.{w32, to_be_bytes, from_be_bytes}
 use Rattle.std.proofs.lemmas.Nat.{from_be_bytes-to_be_bytes_4}
-use Rattle.std.proofs.lemmas.Bool.{cond-false, ne_eqb}
-use Rattle.std.proofs.lemmas.List.{take_at, append_assoc, length-replicate, length-map, get_or-append-add, get_or-map, take_all, get_or_append_left, take-replicate}
-use Rattle.std.proofs.lemmas.List.Elements.{All-head, All-tail}
+use Rattle.std.proofs.lemmas.Bool.{cond-false, ne_eqb, lt-leb}
+use Rattle.std.proofs.lemmas.List.{take_at, append_assoc, length-replicate, length-map, get_or-append-add, get_or-map, take_all, take_more, length_push, get_or_append_left, take-replicate}
 use Rattle.std.proofs.Math.Seq.{drop-append-add}
 use Rattle.rss_base.specs.Names.{IsName}
-use Rattle.rss_base.specs.TupleTypes.{field_names, most_fields}
-use Rattle.rss_base.specs.Listings.{segment_spelled, kind_spelled, field_spelled, relation_spelled, padded}
+use Rattle.rss_base.specs.TupleTypes.{field_names, most_fields, is_added}
+use Rattle.rss_base.specs.Listings.{segment_spelled, kind_spelled, field_spelled, relation_spelled, added_count, padded}
 use Rattle.rss_base.specs.declared.name.Name.{Name}
 use Rattle.rss_base.specs.declared.value.FieldKind.{FieldKind}
 use Rattle.rss_base.specs.declared.value.FieldKind.TheVariants.{Int, Text}
 use Rattle.rss_base.specs.declared.field.FieldDef.{FieldDef}
 use Rattle.rss_base.specs.declared.relation.RelationEntry.{RelationEntry}
 use Rattle.rss_catalog.specs.Reading.{segment_of, kind_of, field_of, fields_of, entry_of, relation_of, definition_spelled, definition_bytes}
-use Rattle.rss_catalog.proofs.Pieces.{long_pieces, pieces_of, pieces_none}
+use Rattle.rss_catalog.proofs.Counts.{counts_none}
+use Rattle.rss_catalog.proofs.Pieces.{long_pieces, piece_at, piece_is}
 
 -- ---- names
 
@@ -61,13 +61,13 @@ kind_back (Text n) = refl
 pub behind : (name rest : List ℕ) (at k : ℕ) → length name ≡ 16 → at ≡ 16 + k → get_or (name ++ rest) at 0 ≡ get_or rest k 0
 behind name rest at k long is = ap (λ (n : ℕ). get_or (name ++ rest) n 0) (omega (arith, long, is)) ∙ get_or-append-add name rest k 0
 
-pub field_back : (field : FieldDef) → length field.name.bytes ≡ 16 → field_of (field_spelled field) ≡ field
-field_back field long =
+pub field_back : (field : FieldDef) (added : Bool) → length field.name.bytes ≡ 16 → field.added ≡ added → field_of added (field_spelled field) ≡ field
+field_back field added long marked =
     let name = take_at field.name.bytes (kind_spelled field.kind) 16 long in
     let code = behind field.name.bytes (kind_spelled field.kind) 16 0 long refl in
     let most = behind field.name.bytes (kind_spelled field.kind) 17 1 long refl in
     let kind = (λ i. kind_of (code i) (most i)) ∙ kind_back field.kind in
-    λ i. record { name = record { bytes = name i }; kind = kind i }
+    λ i. record { name = record { bytes = name i }; kind = kind i; added = sym marked i }
 
 -- the names of fields are as long as names
 abbrev pub AreLong : List FieldDef → Type 0
@@ -76,19 +76,47 @@ AreLong fields = All (λ field. length field.name.bytes ≡ 16) fields
 pub fields_long : (fields : List FieldDef) → AreLong fields → length (flat_map field_spelled fields) ≡ 18 * length fields
 fields_long fields long = long_pieces field_spelled 18 fields (λ k d low. field_long (get_or fields k d) (long k d low))
 
-each_back : (fields : List FieldDef) → AreLong fields → map field_of (map field_spelled fields) ≡ fields
-each_back [] long = refl
-each_back (field ∷ fields) long =
-    let here = field_back field (All-head (λ (f : FieldDef). length f.name.bytes ≡ 16) field fields long) in
-    let rest = each_back fields (All-tail (λ (f : FieldDef). length f.name.bytes ≡ 16) field fields long) in
-    λ i. here i ∷ rest i
+-- the fields from this place on were added, and no others
+abbrev pub AreMarked : ℕ → List FieldDef → Type 0
+AreMarked originals fields = (k : ℕ) (d : FieldDef) → k < length fields → (get_or fields k d).added ≡ nat_le originals k
 
-pub fields_back : (fields : List FieldDef) (rest : List ℕ) → AreLong fields → fields_of (length fields) (flat_map field_spelled fields ++ rest) ≡ fields
-fields_back [] rest long = ap (map field_of) (pieces_none 18 rest)
-fields_back (field ∷ fields) rest long =
-    let all = field ∷ fields in
-    ap (map field_of) (pieces_of field_spelled 18 all rest (length all) field (λ k d low. field_long (get_or all k d) (long k d low)) (omega arith) ∙ ap (map field_spelled) (take_all (length all) all (omega arith)))
-    ∙ each_back all long
+-- so it is in a relation: so many fields are counted as stand behind the original ones
+pub marked_of : (fields : List FieldDef) → All (λ field. field.added ≡ false) fields → AreMarked (length fields - added_count fields) fields
+marked_of fields original k d low =
+    let none = counts_none is_added fields original in
+    original k d low ∙ sym (lt-leb (length fields - added_count fields) k (omega (arith, none, low)))
+
+pub fields_none : (originals : ℕ) (bytes : List ℕ) → fields_of originals 0 bytes ≡ []
+unfolding fields_of
+fields_none originals bytes = refl
+
+-- one field more
+pub fields_more : (originals count : ℕ) (bytes : List ℕ) → fields_of originals (count + 1) bytes ≡ fields_of originals count bytes ++ field_of (nat_le originals count) (take 18 (drop (18 * count) bytes)) ∷ []
+unfolding fields_of
+fields_more originals count bytes = ap (λ (n : ℕ). fields_of originals n bytes) (add-one count)
+
+pub length-fields_of : (originals count : ℕ) (bytes : List ℕ) → length (fields_of originals count bytes) ≡ count
+length-fields_of originals zero bytes = ap length (fields_none originals bytes)
+length-fields_of originals (suc k) bytes =
+    ap (λ (n : ℕ). length (fields_of originals n bytes)) (sym (add-one k)) ∙ ap length (fields_more originals k bytes) ∙ length_push (fields_of originals k bytes) _ ∙ ap (λ (n : ℕ). n + 1) (length-fields_of originals k bytes) ∙ add-one k
+
+-- one field more was read
+pub field_read : (originals count at : ℕ) (bytes : List ℕ) (so_far new : List FieldDef) (field : FieldDef) → so_far ≡ fields_of originals count bytes → new ≡ so_far ++ field ∷ [] → at ≡ 18 * count → field ≡ field_of (nat_le originals count) (take (at + 18 - at) (drop at bytes)) → new ≡ fields_of originals (count + 1) bytes
+field_read originals count at bytes so_far new field was now here is =
+    let read = piece_is (field_of (nat_le originals count)) 18 count at bytes field here is in
+    now ∙ (λ i. was i ++ read i ∷ []) ∙ sym (fields_more originals count bytes)
+
+-- the first so many fields, by their bytes
+pub fields_back : (originals count : ℕ) (fields : List FieldDef) (d : FieldDef) (rest : List ℕ) → AreLong fields → AreMarked originals fields → count ≤ length fields → fields_of originals count (flat_map field_spelled fields ++ rest) ≡ take count fields
+fields_back originals zero fields d rest long marked few = fields_none originals (flat_map field_spelled fields ++ rest)
+fields_back originals (suc k) fields d rest long marked few =
+    let piece = piece_at field_spelled 18 fields k d rest (λ j e low. field_long (get_or fields j e) (long j e low)) (omega arith) in
+    let here = ap (field_of (nat_le originals k)) piece ∙ field_back (get_or fields k d) (nat_le originals k) (long k d (omega arith)) (marked k d (omega arith)) in
+    ap (λ (n : ℕ). fields_of originals n (flat_map field_spelled fields ++ rest)) (sym (add-one k))
+    ∙ fields_more originals k (flat_map field_spelled fields ++ rest)
+    ∙ (λ i. fields_back originals k fields d rest long marked (omega arith) i ++ here i ∷ [])
+    ∙ sym (take_more fields k d (omega arith))
+    ∙ ap (λ (n : ℕ). take n fields) (add-one k)
 
 -- ---- relations
 
@@ -99,9 +127,9 @@ names_long fields names k d low =
 
 pub definition_long : (relation : RelationEntry) → length relation.name.bytes ≡ 16 → AreLong relation.fields → length (definition_spelled relation) ≡ definition_bytes relation
 definition_long relation name fields =
-    let head : List ℕ = relation.name.bytes ++ relation.segment ∷ length relation.fields ∷ 0 ∷ 0 ∷ [] ++ to_be_bytes w32 relation.live ++ replicate 8 0 in
+    let head : List ℕ = relation.name.bytes ++ relation.segment ∷ length relation.fields ∷ added_count relation.fields ∷ 0 ∷ [] ++ to_be_bytes w32 relation.live ++ replicate 8 0 in
     length-append head (flat_map field_spelled relation.fields)
-    ∙ omega (arith, length-append (relation.name.bytes ++ relation.segment ∷ length relation.fields ∷ 0 ∷ 0 ∷ [] ++ to_be_bytes w32 relation.live) (replicate 8 0), length-append (relation.name.bytes ++ relation.segment ∷ length relation.fields ∷ 0 ∷ 0 ∷ []) (to_be_bytes w32 relation.live), length-append relation.name.bytes (relation.segment ∷ length relation.fields ∷ 0 ∷ 0 ∷ []), name, fields_long relation.fields fields)
+    ∙ omega (arith, length-append (relation.name.bytes ++ relation.segment ∷ length relation.fields ∷ added_count relation.fields ∷ 0 ∷ [] ++ to_be_bytes w32 relation.live) (replicate 8 0), length-append (relation.name.bytes ++ relation.segment ∷ length relation.fields ∷ added_count relation.fields ∷ 0 ∷ []) (to_be_bytes w32 relation.live), length-append relation.name.bytes (relation.segment ∷ length relation.fields ∷ added_count relation.fields ∷ 0 ∷ []), name, fields_long relation.fields fields)
 
 -- what is put behind a relation's definition fills it up
 pub put_padded : (old definition mid new : List ℕ) (long count : ℕ) → mid ≡ old ++ definition → new ≡ mid ++ take long (replicate 512 0) → length mid ≡ length old + count → long ≡ 512 - count → new ≡ old ++ padded 512 definition
@@ -116,6 +144,7 @@ pub record IsFormed (relation : RelationEntry) : Type 0 where
   pub fields : AreLong relation.fields
   pub few : length relation.fields ≤ most_fields
   pub live : relation.live < 2 ^ 32
+  pub marked : AreMarked (length relation.fields - added_count relation.fields) relation.fields
 
 abbrev pub AreFormed : Option RelationEntry → Type 0
 AreFormed relation = (entry : RelationEntry) → relation ≡ Some entry → IsFormed entry
@@ -144,12 +173,15 @@ entry_back entry formed =
     let long = name_long entry.name formed.name in
     let fields = flat_map field_spelled entry.fields in
     let zeros = replicate (512 - length (definition_spelled entry)) 0 in
-    let tail : List ℕ = entry.segment ∷ length entry.fields ∷ 0 ∷ 0 ∷ (to_be_bytes w32 entry.live ++ (replicate 8 0 ++ (fields ++ zeros))) in
-    let whole : relation_spelled (Some entry) ≡ name ++ tail = regroup name (entry.segment ∷ length entry.fields ∷ 0 ∷ 0 ∷ []) (to_be_bytes w32 entry.live) (replicate 8 0) fields zeros in
+    let tail : List ℕ = entry.segment ∷ length entry.fields ∷ added_count entry.fields ∷ 0 ∷ (to_be_bytes w32 entry.live ++ (replicate 8 0 ++ (fields ++ zeros))) in
+    let whole : relation_spelled (Some entry) ≡ name ++ tail = regroup name (entry.segment ∷ length entry.fields ∷ added_count entry.fields ∷ 0 ∷ []) (to_be_bytes w32 entry.live) (replicate 8 0) fields zeros in
     let live : from_be_bytes w32 (take 4 (drop 20 (name ++ tail))) ≡ entry.live = ap (λ (l : List ℕ). from_be_bytes w32 (take 4 l)) (drop_behind name tail 20 4 long refl) ∙ from_be_bytes-to_be_bytes_4 entry.live formed.live in
     let count : min (get_or (name ++ tail) 17 0) 16 ≡ length entry.fields = ap (λ (n : ℕ). min n 16) (behind name tail 17 1 long refl) ∙ omega (arith, formed.few) in
-    let read : fields_of (min (get_or (name ++ tail) 17 0) 16) (drop 32 (name ++ tail)) ≡ entry.fields =
-    (λ i. fields_of (count i) (drop_behind name tail 32 16 long refl i)) ∙ fields_back entry.fields zeros formed.fields in
+    let many = length entry.fields in
+    let originals : min (get_or (name ++ tail) 17 0) 16 - get_or (name ++ tail) 18 0 ≡ many - added_count entry.fields = (λ i. count i - behind name tail 18 2 long refl i) in
+    let field : FieldDef = record { name = entry.name; kind = Int; added = false } in
+    let read : fields_of (min (get_or (name ++ tail) 17 0) 16 - get_or (name ++ tail) 18 0) (min (get_or (name ++ tail) 17 0) 16) (drop 32 (name ++ tail)) ≡ entry.fields =
+    (λ i. fields_of (originals i) (count i) (drop_behind name tail 32 16 long refl i)) ∙ fields_back (many - added_count entry.fields) many entry.fields field zeros formed.fields formed.marked (omega arith) ∙ take_all many entry.fields (omega arith) in
     ap entry_of whole
     ∙ (λ i. record { name = record { bytes = take_at name tail 16 long i }; segment = behind name tail 16 0 long refl i; fields = read i; live = live i })
 
@@ -159,8 +191,8 @@ first_of entry formed =
     let name = entry.name.bytes in
     let long = name_long entry.name formed.name in
     let zeros = replicate (512 - length (definition_spelled entry)) 0 in
-    let whole = regroup name (entry.segment ∷ length entry.fields ∷ 0 ∷ 0 ∷ []) (to_be_bytes w32 entry.live) (replicate 8 0) (flat_map field_spelled entry.fields) zeros in
-    let tail : List ℕ = entry.segment ∷ length entry.fields ∷ 0 ∷ 0 ∷ (to_be_bytes w32 entry.live ++ (replicate 8 0 ++ (flat_map field_spelled entry.fields ++ zeros))) in
+    let whole = regroup name (entry.segment ∷ length entry.fields ∷ added_count entry.fields ∷ 0 ∷ []) (to_be_bytes w32 entry.live) (replicate 8 0) (flat_map field_spelled entry.fields) zeros in
+    let tail : List ℕ = entry.segment ∷ length entry.fields ∷ added_count entry.fields ∷ 0 ∷ (to_be_bytes w32 entry.live ++ (replicate 8 0 ++ (flat_map field_spelled entry.fields ++ zeros))) in
     ap (λ (b : ℕ). b == 0) (ap (λ (l : List ℕ). get_or l 0 0) whole ∙ get_or_append_left name tail 0 0 (omega (arith, long))) ∙ name_begins entry.name formed.name
 
 pub relation_back : (relation : Option RelationEntry) → AreFormed relation → relation_of (relation_spelled relation) ≡ relation

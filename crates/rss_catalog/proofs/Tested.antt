@@ -1,5 +1,5 @@
 -- What the tests of a listing find.
-use Rattle.std.proofs.Common.{◌≡◌, ℕ, ◌+◌, ◌-◌, ◌<◌, ◌≤◌, Bool, true, List, [], ◌∷◌, ◌++◌, length, take, drop, get_or, set, replicate, Option, Some, None, All, refl, sym, ◌∙◌, ap, subst, inl, inr, arith, length-append}
+use Rattle.std.proofs.Common.{◌≡◌, ℕ, ◌+◌, ◌-◌, ◌<◌, ◌≤◌, Bool, true, false, List, [], ◌∷◌, ◌++◌, length, take, drop, get_or, set, replicate, Option, Some, None, All, refl, sym, ◌∙◌, ap, subst, inl, inr, arith, length-append}
 use Rattle.std.specs.Prelude.{map, IfNone, nat_le, ◌&&◌}
 use Rattle.std.proofs.lemmas.Bool.{cases_eq, cases_lt, and_parts, leb-true, le-leb}
 use Rattle.std.proofs.lemmas.Option.{same_Some}
@@ -7,7 +7,7 @@ use Rattle.std.proofs.lemmas.List.{length-map, length-take, length-replicate, ta
 use Rattle.std.proofs.lemmas.List.Elements.{All-head, All-tail, All-cons, All-weaker, All-replicate, All-map}
 use Rattle.rss_base.specs.Names.{IsName, IsNameByte, IsNameText, AreApart}
 use Rattle.std.specs.List.{list_all}
-use Rattle.rss_base.specs.TupleTypes.{AreFields, field_names, kinds, is_kind, width, most_fields, most_width}
+use Rattle.rss_base.specs.TupleTypes.{AreFields, field_names, form_of, kinds, is_kind, width, most_fields, most_width}
 use Rattle.rss_base.specs.declared.value.FieldKind.TheVariants.{Int}
 use Rattle.rss_base.specs.Sizes.{segments, relations_most, images_most, links_most}
 use Rattle.rss_base.specs.Listings.{Listing, numbered, ListingFits}
@@ -135,7 +135,7 @@ named_fields fields = map (λ field. Some field.name) fields
 
 field_at : (fields : List FieldDef) (k : ℕ) (d : Name) → k < length fields → get_or (named_fields fields) k None ≡ Some (get_or (field_names fields) k d)
 field_at fields k d low =
-    let f : FieldDef = record { name = d; kind = Int } in
+    let f : FieldDef = record { name = d; kind = Int; added = false } in
     get_or-map (λ (field : FieldDef). Some field.name) fields k f None low ∙ ap Some (sym (get_or-map (λ (field : FieldDef). field.name) fields k f d low))
 
 pub apart_of_once : (fields : List FieldDef) → AreOnce (named_fields fields) → AreApart (field_names fields)
@@ -161,17 +161,17 @@ once_of_apart fields apart one other name is_one is_other =
 
 -- ---- fields
 
-kinds_all : (fields : List FieldDef) → All (λ field. is_kind field.kind ≡ true) fields → list_all is_kind (kinds fields) ≡ true
+kinds_all : (fields : List FieldDef) → All (λ field. is_kind field.kind ≡ true) fields → list_all (λ form. is_kind form.kind) (kinds fields) ≡ true
 kinds_all [] all = refl
 kinds_all (field ∷ fields) all =
     let here = All-head (λ (f : FieldDef). is_kind f.kind ≡ true) field fields all in
     let rest = kinds_all fields (All-tail (λ (f : FieldDef). is_kind f.kind ≡ true) field fields all) in
     (λ i. here i && rest i)
 
-all_kinds : (fields : List FieldDef) → list_all is_kind (kinds fields) ≡ true → All (λ field. is_kind field.kind ≡ true) fields
+all_kinds : (fields : List FieldDef) → list_all (λ form. is_kind form.kind) (kinds fields) ≡ true → All (λ field. is_kind field.kind ≡ true) fields
 all_kinds [] is = λ k d low. absurd (omega arith)
 all_kinds (field ∷ fields) is =
-    let parts = and_parts (is_kind field.kind) (list_all is_kind (kinds fields)) is in
+    let parts = and_parts (is_kind field.kind) (list_all (λ form. is_kind form.kind) (kinds fields)) is in
     All-cons (λ (f : FieldDef). is_kind f.kind ≡ true) field fields parts.0 (all_kinds fields parts.1)
 
 -- what fields of a relation are, as it is tested
@@ -182,13 +182,14 @@ pub record AreTested (fields : List FieldDef) : Type 0 where
   pub narrow : width (kinds fields) ≤ most_width
   pub names : All (λ field. IsName field.name) fields
   pub apart : AreApart (field_names fields)
+  pub original : All (λ field. field.added ≡ false) fields
 
 pub fields_tested : (fields : List FieldDef) → AreFields fields → AreTested fields
 fields_tested fields are =
     let count = length (kinds fields) in
-    let long = length-map fields (λ (field : FieldDef). field.kind) in
+    let long = length-map fields form_of in
     let names_long = length-map fields (λ (field : FieldDef). field.name) in
-    let parts : ((nat_le 1 count && nat_le count most_fields) ≡ true) × (list_all is_kind (kinds fields) ≡ true) = and_parts _ _ are.formed in
+    let parts : ((nat_le 1 count && nat_le count most_fields) ≡ true) × (list_all (λ form. is_kind form.kind) (kinds fields) ≡ true) = and_parts _ _ are.formed in
     let few = and_parts (nat_le 1 count) (nat_le count most_fields) parts.0 in
     record {
       some = omega (arith, leb-true 1 count few.0, long);
@@ -197,11 +198,12 @@ fields_tested fields are =
       narrow = are.narrow;
       names = λ k d low. subst IsName (get_or-map (λ (field : FieldDef). field.name) fields k d d.name low) (are.names k d.name (omega (arith, low, names_long)));
       apart = are.apart;
+      original = are.original;
     }
 
 pub tested_fields : (fields : List FieldDef) → AreTested fields → AreFields fields
 tested_fields fields are =
-    let long = length-map fields (λ (field : FieldDef). field.kind) in
+    let long = length-map fields form_of in
     let low = le-leb 1 (length (kinds fields)) (omega (arith, are.some, long)) in
     let high = le-leb (length (kinds fields)) most_fields (omega (arith, are.few, long)) in
     let all = kinds_all fields are.kinds_fit in
@@ -210,6 +212,7 @@ tested_fields fields are =
       narrow = are.narrow;
       names = All-map IsName (λ (field : FieldDef). field.name) fields are.names;
       apart = are.apart;
+      original = are.original;
     }
 
 -- ---- what belongs to a number

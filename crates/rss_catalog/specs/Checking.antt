@@ -1,9 +1,9 @@
 -- What is asked of a listing, by parts.
-use Rattle.std.specs.Prelude.{◌≡◌, ℕ, ◌-◌, ◌≤◌, ◌++◌, List, [], length, Contains, All, map, replicate, option_map, count_by, Option, Some, is_some, true, Bool}
+use Rattle.std.specs.Prelude.{◌≡◌, ℕ, ◌-◌, ◌≤◌, ◌++◌, List, [], length, Contains, All, map, replicate, option_map, count_by, Option, Some, is_some, true, false, Bool}
 use Rattle.rss_base.specs.Sizes.{roles_most}
 use Rattle.rss_base.specs.Names.{IsName}
 use Rattle.rss_base.specs.TupleTypes.{kinds, chosen, key_width, most_key_width, most_fields}
-use Rattle.rss_base.specs.Listings.{Listing, numbered, EntryFits, ImageFits, LinkFits, IsFieldNumber, AreDifferent, field_numbers, has_role}
+use Rattle.rss_base.specs.Listings.{Listing, numbered, EntryFits, ImageFits, LinkFits, IsFieldNumber, AreDifferent, field_numbers, has_role, added_count}
 use Rattle.rss_base.specs.declared.name.Name.{Name}
 use Rattle.rss_base.specs.declared.field.FieldDef.{FieldDef}
 use Rattle.rss_base.specs.declared.relation.RelationEntry.{RelationEntry}
@@ -107,6 +107,14 @@ pub record LinksFit (entries : List (Option RelationEntry)) (links : List (Optio
   pub once : AreOnce (link_names links)
   pub each : AreLinksIn entries links
   pub few_roles : HaveFewRoles links
+
+-- no field of these relations was added
+abbrev pub AreAllOriginal : List (Option RelationEntry) → Type 0
+AreAllOriginal entries = (number : ℕ) (relation : RelationEntry) → numbered entries number ≡ Some relation → added_count relation.fields ≡ 0
+
+-- none of these links is late
+abbrev pub AreAllEarly : List (Option LinkEntry) → Type 0
+AreAllEarly links = (number : ℕ) (link : LinkEntry) → numbered links number ≡ Some link → link.late ≡ false
 
 -- one of these entries belongs to this number
 pub record HasEntryOf {X : Type 0} (belongs : X → ℕ → Bool) (entries : List (Option X)) (number : ℕ) : Type 0 where

@@ -1,9 +1,9 @@
 -- What bytes of the catalog read as, whether or not they are in form: what was read is in form where it is spelled by the same bytes.
-use Rattle.std.specs.Prelude.{◌≡◌, ℕ, ◌+◌, ◌*◌, ◌≤◌, ◌==◌, zero, suc, min, if◌then◌else◌, List, [], ◌∷◌, ◌++◌, length, replicate, map, flat_map, take, drop, slice_index, Option, Some, None}
+use Rattle.std.specs.Prelude.{◌≡◌, ℕ, ◌+◌, ◌-◌, ◌*◌, ◌≤◌, ◌==◌, Bool, zero, suc, min, nat_le, if◌then◌else◌, List, [], ◌∷◌, ◌++◌, length, replicate, flat_map, take, drop, slice_index, Option, Some, None}
 use Rattle.std.specs.Int.{w16, w32, to_be_bytes, from_be_bytes}
 use Rattle.rss_base.specs.Names.{name_bytes}
 use Rattle.rss_base.specs.TupleTypes.{most_fields}
-use Rattle.rss_base.specs.Listings.{field_spelled, field_bytes}
+use Rattle.rss_base.specs.Listings.{field_spelled, field_bytes, added_count}
 use Rattle.rss_base.specs.declared.name.Name.{Name}
 use Rattle.rss_base.specs.declared.value.FieldKind.{FieldKind}
 use Rattle.rss_base.specs.declared.value.FieldKind.TheVariants.{Int, Text}
@@ -17,7 +17,7 @@ use Rattle.rss_base.specs.declared.tid.Tid.{Tid}
 
 abbrev pub definition_spelled : RelationEntry → List ℕ
 definition_spelled relation =
-    relation.name.bytes ++ relation.segment ∷ length relation.fields ∷ 0 ∷ 0 ∷ []
+    relation.name.bytes ++ relation.segment ∷ length relation.fields ∷ added_count relation.fields ∷ 0 ∷ []
     ++ to_be_bytes w32 relation.live ++ replicate 8 0 ++ flat_map field_spelled relation.fields
 
 abbrev pub definition_bytes : RelationEntry → ℕ
@@ -45,20 +45,27 @@ segment_of bytes = if slice_index bytes 0 == 0 then None else Some (name_of byte
 abbrev pub kind_of : ℕ → ℕ → FieldKind
 kind_of code most = if code == 1 then Int else Text most
 
-abbrev pub field_of : List ℕ → FieldDef
-field_of bytes = record {
+-- its own bytes don't say whether a field was added
+abbrev pub field_of : Bool → List ℕ → FieldDef
+field_of added bytes = record {
   name = name_of (take name_bytes bytes);
   kind = kind_of (slice_index bytes 16) (slice_index bytes 17);
+  added = added;
 }
 
-abbrev pub fields_of : ℕ → List ℕ → List FieldDef
-fields_of count bytes = map field_of (pieces field_bytes count bytes)
+-- so many fields: the first ones are original, as many as the first number says, and those behind them were added
+unfoldable pub fields_of : ℕ → ℕ → List ℕ → List FieldDef
+fields_of originals zero bytes = []
+fields_of originals (suc count) bytes =
+    fields_of originals count bytes
+    ++ field_of (nat_le originals count) (take field_bytes (drop (field_bytes * count) bytes)) ∷ []
 
 abbrev pub entry_of : List ℕ → RelationEntry
 entry_of bytes = record {
   name = name_of (take name_bytes bytes);
   segment = slice_index bytes 16;
-  fields = fields_of (min (slice_index bytes 17) most_fields) (drop 32 bytes);
+  fields = fields_of (min (slice_index bytes 17) most_fields - slice_index bytes 18)
+      (min (slice_index bytes 17) most_fields) (drop 32 bytes);
   live = from_be_bytes w32 (take 4 (drop 20 bytes));
 }
 
@@ -94,6 +101,7 @@ link_entry_of bytes = record {
   name = name_of (take name_bytes bytes);
   parent = parent_of (slice_index bytes 16) (slice_index bytes 17);
   child = slice_index bytes 18;
+  late = slice_index bytes 19 == 1;
   first = place_of (take 6 (drop 20 bytes));
   last = place_of (take 6 (drop 26 bytes));
 }

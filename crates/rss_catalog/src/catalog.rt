@@ -7,7 +7,7 @@ ghost use Rattle.rss_base.specs.Sizes.{segments as segments_most, relations_most
 ghost use Rattle.rss_base.specs.Steps.{PagesCall, no_page};
 ghost use Rattle.rss_base.specs.Listings.{Listing, numbered, names_of, segment_at, relation_at, image_at, link_at, IsNumberOf, IsUnlisted};
 ghost use Rattle.rss_base.specs.Listings.{IsLeastUnused, AreAllUsed, EntryFits, ImageFits, LinkFits, IsSpelled, ListingFits, HoldsListing};
-ghost use Rattle.rss_base.specs.Listings.{no_listing, with_segment, with_relation, with_image, with_link, with_count, with_root, roles_of, catalog_page};
+ghost use Rattle.rss_base.specs.Listings.{no_listing, with_segment, with_relation, with_image, with_link, with_count, with_root, roles_of, SuitsVersion, catalog_page};
 ghost use Rattle.rss_base.specs.declared.fault.PageFault.TheVariants.{Damaged as PageDamaged};
 ghost use Rattle.rss_base.specs.declared.name.Name.{Name as AnyName};
 ghost use Rattle.rss_base.specs.declared.place.Place.{Place as AnyPlace};
@@ -21,7 +21,7 @@ ghost use Rattle.rss_catalog.specs.Catalogs.{IsSafe, IsSafeImage, IsSafeLink, Ha
 ghost use Rattle.rss_catalog.specs.Checking.{AreSafeIn, AreSafeLinks};
 ghost use Rattle.std.proofs.Props.{props};
 
-use crate::checking::flaw;
+use crate::checking::{are_all_early, are_all_original, flaw};
 use crate::encoding::{
     IMAGES_OF_PAGE, RELATIONS_OF_PAGE, images_page, links_page, relations_page, segments_page,
 };
@@ -352,6 +352,16 @@ impl Catalog {
             }
         }
         Ok(names)
+    }
+
+    /// Whether a store of this version of the format may have these definitions.
+    pub fn suits_version(&self, version: u8) -> bool
+        ensures { IsTrue result ↔ SuitsVersion version self.now.listing }
+    {
+        if version < 2 && !are_all_original(&self.relations) {
+            return false;
+        }
+        version >= 3 || are_all_early(&self.links)
     }
 
     /// Defines a segment by the least number that is not in use, and answers this.

@@ -1,5 +1,5 @@
 // Whether a listing may stand in a store.
-ghost use Rattle.std.specs.Prelude.{◌≡◌, ◌≢◌, ◌↔◌, ◌<◌, ◌≤◌, ℕ, true, length, slice_index, is_some, All, Contains, Some, map, option_map, IsTrue};
+ghost use Rattle.std.specs.Prelude.{◌≡◌, ◌≢◌, ◌↔◌, ◌<◌, ◌≤◌, ℕ, true, false, length, slice_index, is_some, All, Contains, Some, map, option_map, IsTrue};
 ghost use Rattle.std.specs.Prelude.{IfSome, IfNone};
 ghost use Rattle.rss_base.specs.Names.{IsName, AreApart};
 ghost use Rattle.rss_base.specs.Sizes.{segments, relations_most, images_most, links_most, system_pages};
@@ -8,6 +8,7 @@ ghost use Rattle.rss_base.specs.Listings.{ListingFits, numbered, IsFieldNumber, 
 ghost use Rattle.rss_catalog.specs.Checking.{listing_of, AreNames, AreOnce, IsTaken, FitsIn, MayStand, TablesFit};
 ghost use Rattle.rss_catalog.specs.Checking.{ImageFitsIn, MayIndex, HasKeyOf, IsKeyOf, ImagesFit};
 ghost use Rattle.rss_catalog.specs.Checking.{LinkFitsIn, MayLink, AreLinksIn, HaveFewRoles, LinksFit};
+ghost use Rattle.rss_catalog.specs.Checking.{AreAllOriginal, AreAllEarly};
 
 use crate::catalog::{at, image_page_of, page_of};
 use crate::entries::{Entry, roles_in};
@@ -244,6 +245,9 @@ fn are_fields(fields: &[FieldDef]) -> bool
     if !are_field_names(fields) {
         return false;
     }
+    if !are_original(fields) {
+        return false;
+    }
     are_apart(fields)
 }
 
@@ -251,6 +255,13 @@ fn are_kinds(fields: &[FieldDef]) -> bool
     ensures { IsTrue result ↔ All (λ field. is_kind field.kind ≡ true) fields.now }
 {
     fields.iter().all(|field| field.kind.is_allowed())
+}
+
+/// Whether none of these fields was added.
+fn are_original(fields: &[FieldDef]) -> bool
+    ensures { IsTrue result ↔ All (λ field. field.added ≡ false) fields.now }
+{
+    fields.iter().all(|field| !field.added)
 }
 
 fn are_field_names(fields: &[FieldDef]) -> bool
@@ -427,6 +438,9 @@ fn is_link(relations: &[Option<RelationEntry>], link: &LinkEntry) -> bool
     if !may_have_parent(relations, link) {
         return false;
     }
+    if link.late {
+        return false;
+    }
     is_end(link.first) && is_end(link.last)
 }
 
@@ -449,4 +463,34 @@ fn is_end(end: Option<Tid>) -> bool
         Some(tid) => usize::from(tid.slot) < PAGE_ENTRIES,
         None => true,
     }
+}
+
+// ---- versions of the format
+
+/// Whether no field of these relations was added.
+pub(crate) fn are_all_original(relations: &[Option<RelationEntry>]) -> bool
+    ensures { IsTrue result ↔ AreAllOriginal relations.now }
+{
+    for relation in relations {
+        if let Some(relation) = relation
+            && !are_original(relation.fields.as_slice())
+        {
+            return false;
+        }
+    }
+    true
+}
+
+/// Whether none of these links is late.
+pub(crate) fn are_all_early(links: &[Option<LinkEntry>]) -> bool
+    ensures { IsTrue result ↔ AreAllEarly links.now }
+{
+    for link in links {
+        if let Some(link) = link
+            && link.late
+        {
+            return false;
+        }
+    }
+    true
 }

@@ -91,34 +91,42 @@ fn read_relation(alloc: Global, bytes: &[u8]) -> Result<Option<RelationEntry>, A
         return Ok(None);
     }
     let count = usize::from(bytes[17]).min(MOST_FIELDS);
+    let originals = count.saturating_sub(usize::from(bytes[18]));
     Ok(Some(RelationEntry {
         name: read_name(&bytes[..NAME_BYTES]),
         segment: bytes[16],
-        fields: read_fields(alloc, count, &bytes[32..])?,
+        fields: read_fields(alloc, originals, count, &bytes[32..])?,
         live: read_number(&bytes[20..24]),
     }))
 }
 
-fn read_fields(alloc: Global, count: usize, bytes: &[u8]) -> Result<Fields, AllocError>
+/// So many fields, of which those behind the original ones were added.
+fn read_fields(
+    alloc: Global,
+    originals: usize,
+    count: usize,
+    bytes: &[u8],
+) -> Result<Fields, AllocError>
     requires few { count ≤ most_fields }
     requires room { field_bytes * count ≤ length bytes.now }
-    ensures { IfOk result (λ fields. fields ≡ fields_of count bytes.now) }
+    ensures { IfOk result (λ fields. fields ≡ fields_of originals count bytes.now) }
 {
     let mut fields = Fields::with_capacity(alloc, count)?;
     for place in 0..count {
         let at = FIELD_BYTES * place;
-        fields.push(read_field(&bytes[at..at + FIELD_BYTES]))?;
+        fields.push(read_field(&bytes[at..at + FIELD_BYTES], place >= originals))?;
     }
     Ok(fields)
 }
 
-fn read_field(bytes: &[u8]) -> FieldDef
+fn read_field(bytes: &[u8], added: bool) -> FieldDef
     requires { length bytes.now ≡ field_bytes }
-    ensures { result ≡ field_of bytes.now }
+    ensures { result ≡ field_of added bytes.now }
 {
     FieldDef {
         name: read_name(&bytes[..NAME_BYTES]),
         kind: read_kind(bytes[16], bytes[17]),
+        added,
     }
 }
 
@@ -172,6 +180,7 @@ fn read_link(bytes: &[u8]) -> Option<LinkEntry>
         name: read_name(&bytes[..NAME_BYTES]),
         parent: read_parent(bytes[16], bytes[17]),
         child: bytes[18],
+        late: bytes[19] == 1,
         first: read_place(&bytes[20..26]),
         last: read_place(&bytes[26..32]),
     })

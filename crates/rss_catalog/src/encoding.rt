@@ -4,7 +4,7 @@ ghost use Rattle.rss_base.specs.Sizes.{page_bytes, links_most};
 ghost use Rattle.rss_base.specs.LogRecords.{place_bytes};
 ghost use Rattle.rss_base.specs.TupleTypes.{most_fields};
 ghost use Rattle.rss_base.specs.Listings.{padded, relation_bytes, relations_of_page, field_bytes};
-ghost use Rattle.rss_base.specs.Listings.{segment_spelled, kind_spelled, field_spelled};
+ghost use Rattle.rss_base.specs.Listings.{segment_spelled, kind_spelled, field_spelled, added_count};
 ghost use Rattle.rss_base.specs.Listings.{relation_spelled, image_bytes, images_of_page, image_spelled};
 ghost use Rattle.rss_base.specs.Listings.{link_bytes, link_spelled, parent_spelled};
 ghost use Rattle.rss_base.specs.Sizes.{segments};
@@ -142,10 +142,24 @@ fn put_definition(bytes: &mut PageBytes, relation: &RelationEntry)
 {
     let fields = relation.fields.as_slice();
     bytes.extend_from_slice(&relation.name.bytes);
-    bytes.extend_from_slice(&[relation.segment, fields.len() as u8, 0, 0]);
+    bytes.extend_from_slice(&[relation.segment, fields.len() as u8, added_count(fields), 0]);
     bytes.extend_from_slice(&relation.live.to_be_bytes());
     bytes.extend_from_slice(&[0; 8]);
     put_fields(bytes, fields);
+}
+
+/// How many of these fields were added.
+fn added_count(fields: &[FieldDef]) -> u8
+    requires { length fields.now ≤ most_fields }
+    ensures { result ≡ added_count fields.now }
+{
+    let mut added = 0;
+    for field in fields {
+        if field.added {
+            added += 1;
+        }
+    }
+    added
 }
 
 fn put_fields(bytes: &mut PageBytes, fields: &[FieldDef])
@@ -222,7 +236,7 @@ fn put_link_entry(bytes: &mut PageBytes, link: &LinkEntry)
 {
     bytes.extend_from_slice(&link.name.bytes);
     bytes.extend_from_slice(&parent_bytes(link.parent));
-    bytes.extend_from_slice(&[link.child, 0]);
+    bytes.extend_from_slice(&[link.child, u8::from(link.late)]);
     bytes.extend_from_slice(&place_bytes(link.first));
     bytes.extend_from_slice(&place_bytes(link.last));
     bytes.extend_from_slice(&[0; 32]);

@@ -2,6 +2,7 @@ mod Events
 mod FileRuns
 mod Images
 mod Noted
+mod Numbered
 mod Places
 mod Runs
 mod Walks

@@ -1,18 +1,15 @@
 -- The laws of pages, for those in memory.
-use Rattle.std.proofs.Common.{◌≡◌, ◌≢◌, ℕ, zero, suc, ◌+◌, ◌<◌, true, false, cond, List, [], ◌∷◌, length, map, inl, inr, Option, Some, None, refl, sym, ◌∙◌, ap, arith}
-use Rattle.std.specs.Prelude.{Bool, ◌==◌, is_some, is_none, count_by, option_map}
+use Rattle.std.proofs.Common.{◌≡◌, ℕ, zero, suc, ◌+◌, ◌^◌, ◌<◌, true, false, cond, List, [], ◌∷◌, length, map, inl, inr, Option, Some, None, refl, sym, ◌∙◌, ap, arith}
+use Rattle.std.specs.Prelude.{is_some, is_none, option_map}
 use Rattle.std.proofs.lemmas.Bool.{cases_Bool, cond-true, cond-false, true≢false}
 use Rattle.std.proofs.lemmas.List.Sums.{sum_by-cons}
 use Rattle.rss_base.specs.DiskRule.{Pages}
-use Rattle.rss_base.specs.Notes.{is_noted_space}
-use Rattle.rss_base.specs.PageMap.{IsKey, space_code, number_limit, owner_of, page_count}
-use Rattle.rss_base.specs.Paged.{HasFixed, is_same, page_key, mapped_of, mapped_pages}
+use Rattle.rss_base.specs.PageMap.{IsKey, owner_of, page_count}
+use Rattle.rss_base.specs.Paged.{HasFixed, is_same, mapped_pages}
 use Rattle.rss_base.specs.StoredPages.{slot_from}
-use Rattle.rss_base.specs.declared.key.Space.{Space}
-use Rattle.rss_base.specs.declared.key.Space.TheVariants.{Home, Overflow, Image, System}
 use Rattle.rss_base.specs.declared.key.PageKey.{PageKey}
-use Rattle.rss_device.specs.MemPages.{has_key, place_at, stored_in, page_in, held_in, note_in, noted_in, placed_in, free_in, has_image, images_in, ArePlaces, none_fixed, no_backing}
-use Rattle.rss_base.proofs.Counts.{mapped_pages-owners, images-owners}
+use Rattle.rss_device.specs.MemPages.{has_key, place_at, stored_in, page_in, held_in, note_in, noted_in, placed_in, free_in, ArePlaces, none_fixed, no_backing}
+use Rattle.rss_base.proofs.Counts.{mapped_pages-owners}
 use Rattle.rss_base.proofs.Keys.{is_same-true, is_same-itself, is_same-other}
 use Rattle.rss_device.specs.declared.stored.Stored.{Stored}
 
@@ -55,14 +52,14 @@ mapped_at (Some stored ∷ places) key is = elim (cases_Bool (is_same key stored
 abbrev pub owners_of : List (Option Stored) → List (Option PageKey)
 owners_of places = map (option_map (λ (stored : Stored). stored.key)) places
 
-owner_at : (places : List (Option Stored)) (s : ℕ) (key : PageKey) → owner_of (owners_of places) s ≡ Some key → has_key key (place_at places s) ≡ true
+pub owner_at : (places : List (Option Stored)) (s : ℕ) (key : PageKey) → owner_of (owners_of places) s ≡ Some key → has_key key (place_at places s) ≡ true
 owner_at [] s key is = cc
 owner_at (None ∷ places) zero key is = cc
 owner_at (Some stored ∷ places) zero key is = let at : stored.key ≡ key = cc in ap (is_same key) at ∙ is_same-itself key
 owner_at (None ∷ places) (suc s) key is = owner_at places s key is
 owner_at (Some stored ∷ places) (suc s) key is = owner_at places s key is
 
-mapped_from : (n : ℕ) (places : List (Option Stored)) (key : PageKey) → is_some (stored_in places key) ≡ is_some (slot_from n (owners_of places) key)
+pub mapped_from : (n : ℕ) (places : List (Option Stored)) (key : PageKey) → is_some (stored_in places key) ≡ is_some (slot_from n (owners_of places) key)
 mapped_from n [] key = refl
 mapped_from n (None ∷ places) key = mapped_from (n + 1) places key
 mapped_from n (Some stored ∷ places) key = elim (cases_Bool (is_same key stored.key)) [
@@ -90,32 +87,9 @@ counted_in {places} placed =
     (mapped_from 0 places) in
     omega (arith, pages, free_and_used places)
 
--- ---- how many of them are of images
-
-abbrev is_image : Option PageKey → Bool
-is_image None = false
-is_image (Some key) = space_code key.space == space_code Image
-
-other_space : (space : Space) → space ≢ Image → (space_code space == space_code Image) ≡ false
-other_space Home not = refl
-other_space Overflow not = refl
-other_space System not = refl
-other_space Image not = absurd (not refl)
-
-images_of_owners : (places : List (Option Stored)) → images_in places ≡ count_by is_image (owners_of places)
-images_of_owners [] = refl
-images_of_owners (None ∷ places) = omega (arith, images_of_owners places, sum_by-cons (λ (o : Option Stored). cond (has_image o) 1 0) None places, sum_by-cons (λ (o : Option PageKey). cond (is_image o) 1 0) None (owners_of places))
-images_of_owners (Some stored ∷ places) = omega (arith, images_of_owners places, sum_by-cons (λ (o : Option Stored). cond (has_image o) 1 0) (Some stored) places, sum_by-cons (λ (o : Option PageKey). cond (is_image o) 1 0) (Some stored.key) (owners_of places))
-
-pub images_counted : {places : List (Option Stored)} → ArePlaces places → images_in places ≡ mapped_of (placed_in places) Image (length places)
-unfolding placed_in
-images_counted {places} placed =
-    let images = images-owners is_image refl (λ key is. ap (λ (space : Space). space_code space == space_code Image) is) (λ key not. other_space key.space not)
-    (length places) (owners_of places) (λ key. is_some (stored_in places key))
-    (λ s key is. placed.allowed s key (owner_at places s key is))
-    (λ s t key here there. placed.distinct s t key (owner_at places s key here) (owner_at places t key there))
-    (mapped_from 0 places) in
-    images_of_owners places ∙ sym images
+-- there are fewer places than a `u32` counts
+pub few_in : {places : List (Option Stored)} → ArePlaces places → length places < 2 ^ 32
+few_in placed = omega (arith, placed.most)
 
 -- none was changed
 pub never : {P : Type 0} → false ≡ true → P
@@ -123,17 +97,3 @@ never is = cc
 
 pub allowed_in : {places : List (Option Stored)} → ArePlaces places → (key : PageKey) → placed_in places key ≡ true → IsKey (length places) key
 allowed_in {places} placed key is = let found = mapped_at places key is in placed.allowed found.0 key found.1
-
--- and its number is below the number of places, but in the system space
-pub number_below : {places : List (Option Stored)} (segment : ℕ) (space : Space) → ArePlaces places → space ≢ System → (k : ℕ) → placed_in places (page_key segment space k) ≡ true → k < length places
-number_below {places} segment space placed apart k is = at space apart (allowed_in placed (page_key segment space k) is).number
-  where
-    at : (space : Space) → space ≢ System → k < number_limit (length places) space → k < length places
-    at Home apart below = below
-    at Overflow apart below = below
-    at Image apart below = below
-    at System apart below = absurd (apart refl)
-
--- the system space is none that is noted
-pub noted_apart : (space : Space) → is_noted_space space ≡ true → space ≢ System
-noted_apart space noted is = true≢false (sym noted ∙ ap is_noted_space is)

@@ -12,7 +12,7 @@ ghost use Rattle.rss_base.specs.declared.key.PageKey.{PageKey as Key};
 ghost use Rattle.rss_device.specs.MemPages.{ArePlaces, has_key, place_at, stored_in, with_stored, held_in, noted_in};
 ghost use Rattle.rss_device.specs.MemPages.{placed_in, free_in, no_device, none_fixed, no_backing};
 ghost use Rattle.rss_device.specs.MemPagesLaws.{none_left, none_stays, some_mapped, noted_mapped};
-ghost use Rattle.rss_device.specs.MemPagesLaws.{allowed_in, counted_in, never};
+ghost use Rattle.rss_device.specs.MemPagesLaws.{allowed_in, counted_in, few_in, never};
 
 use crate::stored::{Stored, free_place, free_places, image_places, place_of, stored_of};
 use rss_base::{PAGE_BYTES, Page, PageFault, PageKey, Pages, Space};
@@ -116,6 +116,8 @@ impl Pages for MemPages {
       settled = true;
       backing = no_backing (length m.places.items);
     } };
+
+    ghost few_slots = { λ m. few_in m.placed };
 
     ghost reads_as_image = { λ m pages told. none_left pages told };
 

@@ -4,7 +4,7 @@ use Rattle.rss_base.specs.DiskRule.{IsTold}
 use Rattle.rss_base.specs.declared.call.Call.{Call}
 use Rattle.rss_base.specs.declared.answer.Reply.{Reply}
 use Rattle.rss_model.specs.Machine.{State}
-use Rattle.rss_model.specs.Calls.{EngineView, LeadsTo}
+use Rattle.rss_stored.specs.Calls.{EngineView, LeadsTo}
 
 -- The call was made, with this reply. Over a device that tells its contents it was a step of the
 -- machine, from whatever state the engine showed to one that it shows now; and at each moment of it

@@ -13,8 +13,8 @@ use rss_base::{
     Call, CallError, FieldDef, FieldKind, Fields, Name, OpenFault, Reply, Tid, Tuple, Value,
 };
 use rss_device::MemDevice;
-use rss_model::{CALLS_MOST, Engine};
 use rss_rsi::{MOST_FRAMES, format, open};
+use rss_stored::{CALLS_MOST, Engine};
 use std::alloc::{AllocError, Global};
 use std::io;
 use thiserror::Error;
@@ -72,6 +72,7 @@ fn define<E: Engine>(engine: &mut E, alloc: Global) -> Result<(), Failure> {
     fields.push(FieldDef {
         name: FIELD,
         kind: FieldKind::Int,
+        added: false,
     })?;
     ask(engine, &Call::MakeSegment(SEGMENT))?;
     ask(engine, &Call::MakeRelation(RELATION, SEGMENT, fields))?;

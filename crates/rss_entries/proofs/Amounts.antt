@@ -14,10 +14,10 @@ use Rattle.rss_node.specs.Nodes.{AreNodes}
 use Rattle.rss_image.specs.Images.{nodes_of, ImageTree, pages_of}
 use Rattle.rss_image.proofs.Halves.{many}
 use Rattle.rss_image.proofs.Putting.{few_pages, spell_one}
-use Rattle.rss_model.specs.Store.{IsListedImage}
-use Rattle.rss_model.proofs.Listed.{at_place}
+use Rattle.rss_stored.specs.Store.{IsListedImage}
+use Rattle.rss_stored.proofs.Listed.{at_place}
 use Rattle.rss_model.proofs.Mixing.{In}
-use Rattle.rss_model.proofs.Relisted.{number_within_list}
+use Rattle.rss_stored.proofs.Relisted.{number_within_list}
 use Rattle.rss_model.proofs.Saving.{more_bound}
 use Rattle.rss_entries.specs.Rooms.{width_of, room_of, image_room, images_room}
 use Rattle.rss_entries.specs.Images.{image_of}

@@ -7,13 +7,13 @@ use Rattle.std.proofs.lemmas.List.{append_cancel_right, length-append}
 use Rattle.std.proofs.lemmas.List.Sums.{sum_by-cons}
 use Rattle.rss_base.specs.LogRecords.{tid_bytes}
 use Rattle.rss_base.specs.Steps.{PagesView}
-use Rattle.rss_base.specs.TupleTypes.{key_width, key_part, key_bytes, key_part_width, SpellsSome, IsKeyOf}
+use Rattle.rss_base.specs.TupleTypes.{key_width, key_bytes, key_part_width, SpellsSome, IsKeyOf}
 use Rattle.rss_base.specs.declared.tid.Tid.{Tid}
 use Rattle.rss_base.specs.declared.value.Value.{Value}
-use Rattle.rss_base.specs.declared.value.FieldKind.{FieldKind}
+use Rattle.rss_base.specs.declared.value.FieldForm.{FieldForm}
 use Rattle.rss_levels.specs.Entries.{Pairwise, IsLess, least}
 use Rattle.rss_value.proofs.Fitting.{AllFit, fitting}
-use Rattle.rss_value.proofs.KeyOrders.{length-key_part}
+use Rattle.rss_value.proofs.KeyOrders.{form_part, length-key_part}
 use Rattle.rss_node.specs.Pairs.{pair_bytes}
 use Rattle.rss_image.specs.Images.{nodes_of, ImageTree, pages_of, pairs_most, page_bound, HasSpare, Becomes, Shrinks, CutsMade}
 use Rattle.rss_image.specs.declared.image.Image.{Image}
@@ -27,23 +27,23 @@ use Rattle.rss_entries.proofs.Swaps.{stands_in, swap, less_each, less_long}
 
 -- ---- the key's bytes
 
-length-key_bytes : (fields : List FieldKind) (values : List Value) → AllFit fields values → length (key_bytes fields values) ≡ key_width fields
+length-key_bytes : (fields : List FieldForm) (values : List Value) → AllFit fields values → length (key_bytes fields values) ≡ key_width fields
 length-key_bytes [] [] all = refl
 length-key_bytes [] (v ∷ values) all = absurd all
 length-key_bytes (f ∷ fields) [] all = absurd all
 length-key_bytes (f ∷ fields) (v ∷ values) all =
-    length-append (key_part f v) (key_bytes fields values) ∙ ap (λ (n : ℕ). n + length (key_bytes fields values)) (length-key_part f v all.0)
+    length-append (form_part f v) (key_bytes fields values) ∙ ap (λ (n : ℕ). n + length (key_bytes fields values)) (length-key_part f v all.0)
     ∙ ap (λ (n : ℕ). key_part_width f + n) (length-key_bytes fields values all.1) ∙ sym (sum_by-cons key_part_width f fields)
 
-pub length-key : (fields : List FieldKind) (values : List Value) (key : List ℕ) → IsKeyOf fields values key → length key ≡ key_width fields
+pub length-key : (fields : List FieldForm) (values : List Value) (key : List ℕ) → IsKeyOf fields values key → length key ≡ key_width fields
 length-key fields values key is = ap length is.same ∙ length-key_bytes fields values (fitting 1 fields values is.fit)
 
 -- some values have the bytes
-pub record HasValues (fields : List FieldKind) (bytes : Option (List ℕ)) : Type 0 where
+pub record HasValues (fields : List FieldForm) (bytes : Option (List ℕ)) : Type 0 where
   pub values : Option (List Value)
   pub are : AreSpelled fields bytes values
 
-pub has_values : (fields : List FieldKind) (bytes : Option (List ℕ)) → IfSome bytes (SpellsSome fields) → HasValues fields bytes
+pub has_values : (fields : List FieldForm) (bytes : Option (List ℕ)) → IfSome bytes (SpellsSome fields) → HasValues fields bytes
 has_values fields None some = record { values = None; are = tt }
 has_values fields (Some bytes) some = record { values = Some some.0; are = some.1 }
 

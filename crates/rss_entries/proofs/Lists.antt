@@ -16,20 +16,20 @@ use Rattle.rss_node.specs.Pairs.{IsSpelledTid}
 use Rattle.rss_model.specs.Items.{Content, Values}
 use Rattle.rss_model.specs.Tables.{RelationDef, Tables, content, fields_in, fields_of}
 use Rattle.rss_model.specs.Images.{image_list, key_kinds}
-use Rattle.rss_model.specs.Store.{Defines, IsListedImage, image_definition}
-use Rattle.rss_model.proofs.Listed.{listed}
+use Rattle.rss_stored.specs.Store.{Defines, IsListedImage, image_definition}
+use Rattle.rss_stored.proofs.Listed.{listed}
 use Rattle.rss_model.proofs.LogChanging.{by_item, put_here, put_other}
 use Rattle.rss_model.proofs.LogLists.{none_some}
 use Rattle.rss_model.proofs.Mixing.{In}
 use Rattle.rss_model.proofs.Putting.{same_parts, values_of}
-use Rattle.rss_model.proofs.Relisted.{number_of}
+use Rattle.rss_stored.proofs.Relisted.{number_of}
 use Rattle.rss_model.proofs.SeenAlike.{entries_same}
 use Rattle.rss_entries.specs.Seeking.{kinds_in}
 use Rattle.rss_entries.specs.Moving.{KeyKinds, pair_with, less, more, moved_pairs, HoldsEntry}
 use Rattle.rss_entries.specs.Images.{key_of, AreTuples, TupleMove, after_move, CanMove}
 use Rattle.rss_entries.proofs.Orders.{Rise, same_pairs, each_of_in, in_contains, with_in, in_with, with_rises, without_in, in_without, without_rises}
 use Rattle.rss_model.proofs.ImageCounts.{entries_counted}
-use Rattle.rss_model.proofs.ImageFields.{fields_are, numbers_are}
+use Rattle.rss_stored.proofs.ImageFields.{fields_are, numbers_are}
 use Rattle.rss_entries.proofs.Shown.{same_tid, Shows, pair_there, tuple_pair, pairs_rise}
 pub use Rattle.rss_entries.proofs.Shown.{byte_list}
 

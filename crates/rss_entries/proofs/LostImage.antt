@@ -18,8 +18,8 @@ use Rattle.rss_image.specs.Images.{DestroysImage, ImageTree, nodes_of as image_n
 use Rattle.rss_image.specs.declared.image.Image.{Image}
 use Rattle.rss_tuple.proofs.Sets.{none_held}
 use Rattle.rss_model.specs.Tables.{Tables}
-use Rattle.rss_model.specs.Store.{IsListedImage, SpellsImage, SpellsImages, nodes_of}
-use Rattle.rss_model.proofs.ImageMade.{LosesImage}
+use Rattle.rss_stored.specs.Store.{IsListedImage, SpellsImage, SpellsImages, nodes_of}
+use Rattle.rss_stored.proofs.ImageMade.{LosesImage}
 use Rattle.rss_model.proofs.LogLists.{by_same, by_test}
 use Rattle.rss_entries.specs.Images.{image_of}
 use Rattle.rss_entries.proofs.Fitting.{fitting_nodes}

@@ -21,8 +21,8 @@ use Rattle.rss_image.specs.Images.{Becomes, pages_of}
 use Rattle.rss_image.specs.declared.image.Image.{Image}
 use Rattle.rss_tuple.proofs.Sets.{none_held}
 use Rattle.rss_model.specs.Tables.{Tables, content}
-use Rattle.rss_model.specs.Store.{IsReached, SpellsImage, SpellsImages, nodes_of}
-use Rattle.rss_model.proofs.ImageMade.{KeepsHeap, HoldsNewImage}
+use Rattle.rss_stored.specs.Store.{IsReached, SpellsImage, SpellsImages, nodes_of}
+use Rattle.rss_stored.proofs.ImageMade.{KeepsHeap, HoldsNewImage}
 use Rattle.rss_model.proofs.LogLists.{by_same, by_test}
 use Rattle.rss_model.proofs.MappedKeys.{same_mapped_of}
 use Rattle.rss_model.proofs.RelationLists.{entry_there}

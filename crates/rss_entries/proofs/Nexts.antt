@@ -26,7 +26,7 @@ use Rattle.rss_image.specs.Images.{Finds, found_bytes, least_tid}
 use Rattle.rss_image.specs.declared.image.Image.{Image}
 use Rattle.rss_model.specs.Tables.{Tables}
 use Rattle.rss_model.specs.Images.{Entry, entry_cmp, image_list, next_entry}
-use Rattle.rss_model.specs.Store.{image_definition, pair_spelled}
+use Rattle.rss_stored.specs.Store.{image_definition, pair_spelled}
 use Rattle.rss_model.proofs.Codes.{split_alike}
 use Rattle.rss_model.proofs.ImageLists.{entry_total}
 use Rattle.rss_model.proofs.LogLists.{by_test, none_some}

@@ -20,7 +20,7 @@ use Rattle.rss_image.specs.Images.{IsPairOf, IsAnother}
 use Rattle.rss_model.specs.Items.{Values}
 use Rattle.rss_model.specs.Tables.{ImageDef, Tables, content}
 use Rattle.rss_model.specs.Images.{HasKey, is_key, is_other, key_in, owner_of_key}
-use Rattle.rss_model.specs.Store.{image_definition}
+use Rattle.rss_stored.specs.Store.{image_definition}
 use Rattle.rss_model.proofs.ChangeKeeping.{not_owned}
 use Rattle.rss_model.proofs.ImageLists.{values_total}
 use Rattle.rss_model.proofs.LogLists.{by_test, false_true}

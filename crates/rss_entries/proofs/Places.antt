@@ -26,9 +26,9 @@ use Rattle.rss_image.specs.Images.{nodes_of, ImageTree, pages_of, page_bound}
 use Rattle.rss_image.proofs.Putting.{spell_one}
 use Rattle.rss_model.specs.Tables.{Tables}
 use Rattle.rss_model.specs.Images.{Entry, image_list}
-use Rattle.rss_model.specs.Store.{AreCounts, IsListedImage, SpellsImage, SpellsImages, image_definition, pair_spelled}
+use Rattle.rss_stored.specs.Store.{AreCounts, IsListedImage, SpellsImage, SpellsImages, image_definition, pair_spelled}
 use Rattle.rss_model.proofs.LogLists.{by_same}
-use Rattle.rss_model.proofs.Relisted.{number_within_list}
+use Rattle.rss_stored.proofs.Relisted.{number_within_list}
 use Rattle.rss_entries.specs.Moving.{KeyKinds, MayMove, pair_with, moved_pairs}
 use Rattle.rss_entries.specs.Rooms.{width_of, room_of, image_room, images_room, image_places}
 use Rattle.rss_entries.specs.Images.{TupleMove, CanMove, AreTuples, after_move, image_of, key_of, ShowBelow}

@@ -27,10 +27,10 @@ use Rattle.rss_image.specs.Images.{nodes_of, ImageTree, AreAllMade, pages_of, Be
 use Rattle.rss_image.specs.declared.image.Image.{Image}
 use Rattle.rss_image.proofs.Putting.{spell_one}
 use Rattle.rss_model.specs.Tables.{Tables}
-use Rattle.rss_model.specs.Store.{Defines, IsListedImage, SpellsImage, SpellsImages, image_definition, pair_spelled, nodes_of as base_nodes}
+use Rattle.rss_stored.specs.Store.{Defines, IsListedImage, SpellsImage, SpellsImages, image_definition, pair_spelled, nodes_of as base_nodes}
 use Rattle.rss_model.proofs.LogLists.{by_same, by_test}
-use Rattle.rss_model.proofs.Listed.{at_place}
-use Rattle.rss_model.proofs.Relisted.{number_within_list, number_set, number_kept}
+use Rattle.rss_stored.proofs.Listed.{at_place}
+use Rattle.rss_stored.proofs.Relisted.{number_within_list, number_set, number_kept}
 use Rattle.rss_entries.specs.Moving.{MovesEntry, MakesEntry, moved_pairs, pair_with}
 use Rattle.rss_entries.specs.Images.{TupleMove, CanMove, after_move, image_of, key_of, ShowBelow, IsReachedBelow}
 use Rattle.rss_entries.proofs.Lists.{byte_list, moved_list, holds_entry, kept_list}

@@ -11,17 +11,17 @@ use Rattle.std.proofs.Math.Dec.{T}
 use Rattle.std.proofs.lemmas.List.Sums.{sum_by-cons}
 use Rattle.rss_base.specs.LogRecords.{tid_bytes}
 use Rattle.rss_base.specs.Trees.{Pair, tid_cmp}
-use Rattle.rss_base.specs.TupleTypes.{kinds, field_names, chosen, misfit, IsStorable, tuple_bytes, key_part, key_part_width, key_width, key_bytes, IsKeyOf}
+use Rattle.rss_base.specs.TupleTypes.{kinds, field_names, chosen, misfit, IsStorable, tuple_bytes, key_part_width, key_width, key_bytes, IsKeyOf}
 use Rattle.rss_base.specs.Listings.{field_numbers}
 use Rattle.rss_base.specs.declared.name.Name.{Name}
 use Rattle.rss_base.specs.declared.tid.Tid.{Tid}
 use Rattle.rss_base.specs.declared.value.Value.{Value}
-use Rattle.rss_base.specs.declared.value.FieldKind.{FieldKind}
+use Rattle.rss_base.specs.declared.value.FieldForm.{FieldForm}
 use Rattle.rss_base.specs.declared.item.Item.TheVariants.{Tuple as TupleItem}
 use Rattle.rss_base.specs.declared.image.ImageEntry.{ImageEntry}
 use Rattle.rss_base.specs.declared.relation.RelationEntry.{RelationEntry}
 use Rattle.rss_value.proofs.Fitting.{AllFit, fitting}
-use Rattle.rss_value.proofs.KeyOrders.{length-key_part, keys_order}
+use Rattle.rss_value.proofs.KeyOrders.{form_part, length-key_part, keys_order}
 use Rattle.rss_value.proofs.Choosing.{key_made}
 use Rattle.rss_levels.specs.Entries.{IsLess, Pairwise}
 use Rattle.rss_node.specs.Pairs.{pair_bytes, pair_from, IsSpelledTid}
@@ -30,7 +30,7 @@ use Rattle.rss_node.proofs.Agreed.{pair_said}
 use Rattle.rss_model.specs.Items.{Values}
 use Rattle.rss_model.specs.Tables.{Tables, content, fields_in}
 use Rattle.rss_model.specs.Images.{Entry, entry, entry_cmp, entries_by, image_list, numbers_of, key_of as key_in}
-use Rattle.rss_model.specs.Store.{image_definition, pair_spelled}
+use Rattle.rss_stored.specs.Store.{image_definition, pair_spelled}
 use Rattle.rss_model.proofs.Codes.{split_alike}
 use Rattle.rss_model.proofs.ImageLists.{entry_total, entry_apart, listed, the_map, T_parts}
 use Rattle.rss_model.proofs.RelationLists.{entry_there}
@@ -40,7 +40,7 @@ use Rattle.rss_entries.specs.Rooms.{width_of}
 use Rattle.rss_entries.specs.Moving.{pair_with}
 use Rattle.rss_entries.specs.Images.{key_of}
 use Rattle.rss_entries.proofs.Orders.{Rise, each_of_in, in_map, of_map, map_rises}
-use Rattle.rss_model.proofs.ImageFields.{chosen_kinds}
+use Rattle.rss_stored.proofs.ImageFields.{chosen_kinds}
 
 -- ---- the entries of a list rise
 
@@ -73,12 +73,12 @@ same_tid a b s t one other same =
     let long : length a ≡ length b = omega (arith, six, ap length same, length-append a (tid_bytes s), length-append b (tid_bytes t)) in
     tid_back s t one other (split_alike a b (tid_bytes s) (tid_bytes t) long same).1
 
-length-key_bytes : (fields : List FieldKind) (values : List Value) → AllFit fields values → length (key_bytes fields values) ≡ key_width fields
+length-key_bytes : (fields : List FieldForm) (values : List Value) → AllFit fields values → length (key_bytes fields values) ≡ key_width fields
 length-key_bytes [] [] all = refl
 length-key_bytes [] (v ∷ values) all = absurd all
 length-key_bytes (f ∷ fields) [] all = absurd all
 length-key_bytes (f ∷ fields) (v ∷ values) all =
-    omega (arith, length-append (key_part f v) (key_bytes fields values), length-key_part f v all.0, length-key_bytes fields values all.1, sum_by-cons key_part_width f fields)
+    omega (arith, length-append (form_part f v) (key_bytes fields values), length-key_part f v all.0, length-key_bytes fields values all.1, sum_by-cons key_part_width f fields)
 
 -- ---- the tuples of a relation
 
@@ -99,18 +99,18 @@ module _ (image : ImageEntry) (relation : RelationEntry) where
   abbrev numbers : List ℕ
   numbers = field_numbers image
 
-  abbrev fields : List FieldKind
+  abbrev fields : List FieldForm
   fields = kinds (chosen numbers relation.fields)
 
   pub pair_is : (tid : Tid) (values : List Value) → spelled_entry image relation (entry_with image tid values) ≡ pair_with (key_of image relation) tid values
-  pair_is tid values = ap (λ (ks : List FieldKind). pair_bytes (key_bytes ks (chosen numbers values)) tid) (sym (chosen_kinds numbers relation.fields))
+  pair_is tid values = ap (λ (ks : List FieldForm). pair_bytes (key_bytes ks (chosen numbers values)) tid) (sym (chosen_kinds numbers relation.fields))
 
   pub key_fits : (tid : Tid) (values : List Value) → IsSpelledTuple relation tid values → IsKeyOf fields (chosen numbers values) (key_bytes fields (chosen numbers values))
   key_fits tid values is =
-      let made = key_made (kinds relation.fields) (tuple_bytes values) numbers (length numbers) (key_bytes (chosen (take (length numbers) numbers) (kinds relation.fields)) (chosen (take (length numbers) numbers) values)) values (omega arith)
+      let made = key_made (kinds relation.fields) (tuple_bytes (kinds relation.fields) values) numbers (length numbers) (key_bytes (chosen (take (length numbers) numbers) (kinds relation.fields)) (chosen (take (length numbers) numbers) values)) values (omega arith)
       (record { fit = is.fit; storable = is.storable; same = refl }) refl in
       record {
-        fit = subst (λ (ks : List FieldKind). misfit ks (chosen numbers values) ≡ None) (chosen_kinds numbers relation.fields) made.fit;
+        fit = subst (λ (ks : List FieldForm). misfit ks (chosen numbers values) ≡ None) (chosen_kinds numbers relation.fields) made.fit;
         storable = made.storable;
         same = refl;
       }

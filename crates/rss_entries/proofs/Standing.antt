@@ -29,7 +29,7 @@ use Rattle.rss_image.proofs.Nested.{same_image}
 use Rattle.rss_image.proofs.Rowed.{same_tree}
 use Rattle.rss_model.specs.Tables.{Tables}
 use Rattle.rss_model.specs.Images.{Entry, image_list}
-use Rattle.rss_model.specs.Store.{SpellsImage, image_definition, pair_spelled}
+use Rattle.rss_stored.specs.Store.{SpellsImage, image_definition, pair_spelled}
 use Rattle.rss_model.proofs.Mixing.{In}
 use Rattle.rss_entries.specs.Images.{image_of}
 use Rattle.rss_entries.proofs.Lists.{byte_list}

@@ -16,7 +16,7 @@ use Rattle.rss_image.specs.declared.image.Image.{Image}
 use Rattle.rss_model.specs.Items.{Content, Values}
 use Rattle.rss_model.specs.Tables.{Tables, content, put}
 use Rattle.rss_model.specs.Fits.{IsTupleOf, tuple_limit}
-use Rattle.rss_model.specs.Store.{Defines, AreCounts, IsListedImage, SpellsImage}
+use Rattle.rss_stored.specs.Store.{Defines, AreCounts, IsListedImage, SpellsImage}
 use Rattle.rss_entries.specs.Rooms.{width_of}
 use Rattle.rss_entries.specs.Moving.{KeyKinds}
 

@@ -4,7 +4,7 @@ use Rattle.rss_base.specs.Steps.{PagesView}
 use Rattle.rss_base.specs.TupleTypes.{chosen, key_bytes, Spells}
 use Rattle.rss_base.specs.declared.tid.Tid.{Tid}
 use Rattle.rss_base.specs.declared.value.Value.{Value}
-use Rattle.rss_base.specs.declared.value.FieldKind.{FieldKind}
+use Rattle.rss_base.specs.declared.value.FieldForm.{FieldForm}
 use Rattle.rss_levels.specs.Entries.{Each}
 use Rattle.rss_levels.specs.Spots.{AreMade, with_pair}
 use Rattle.rss_levels.specs.Removes.{without_pair}
@@ -15,7 +15,7 @@ use Rattle.rss_image.specs.declared.image.Image.{Image}
 -- fields: the kinds of a relation's fields.
 -- which: the numbers of those that a key has.
 pub record KeyKinds : Type 0 where
-  pub fields : List FieldKind
+  pub fields : List FieldForm
   pub which : List ℕ
 
 -- the pair of a tuple with these values
@@ -24,7 +24,7 @@ pair_with key tid values =
     pair_bytes (key_bytes (chosen key.which key.fields) (chosen key.which values)) tid
 
 -- the bytes are those of these values, where there are any
-abbrev pub AreSpelled : List FieldKind → Option (List ℕ) → Option (List Value) → Type 0
+abbrev pub AreSpelled : List FieldForm → Option (List ℕ) → Option (List Value) → Type 0
 AreSpelled fields None None = Unit {0}
 AreSpelled fields None (Some values) = ⊥
 AreSpelled fields (Some bytes) None = ⊥

@@ -6,7 +6,7 @@ use Rattle.rss_base.specs.Listings.{Listing, ListingFits, field_numbers}
 use Rattle.rss_base.specs.declared.name.Name.{Name}
 use Rattle.rss_base.specs.declared.tid.Tid.{Tid}
 use Rattle.rss_base.specs.declared.value.Value.{Value}
-use Rattle.rss_base.specs.declared.value.FieldKind.{FieldKind}
+use Rattle.rss_base.specs.declared.value.FieldForm.{FieldForm}
 use Rattle.rss_base.specs.declared.item.Item.TheVariants.{Tuple as TupleItem}
 use Rattle.rss_base.specs.declared.image.ImageEntry.{ImageEntry}
 use Rattle.rss_base.specs.declared.relation.RelationEntry.{RelationEntry}
@@ -15,7 +15,7 @@ use Rattle.rss_image.specs.declared.image.Image.{Image}
 use Rattle.rss_model.specs.Items.{Values}
 use Rattle.rss_model.specs.Tables.{ImageDef, Tables, content}
 use Rattle.rss_model.specs.Images.{Entry, HasKey, image_list, key_in, next_entry, owner_of_key}
-use Rattle.rss_model.specs.Store.{Defines, IsListedImage, SpellsImage, image_definition}
+use Rattle.rss_stored.specs.Store.{Defines, IsListedImage, SpellsImage, image_definition}
 use Rattle.rss_entries.specs.Rooms.{width_of}
 use Rattle.rss_entries.specs.Moving.{KeyKinds}
 use Rattle.rss_entries.specs.Images.{AreTuples, image_of, key_of}
@@ -55,7 +55,7 @@ IsOwnerIn image held key bytes own found =
 -- ---- the next entry
 
 -- the kinds of the fields of an image's keys
-abbrev pub kinds_in : ImageEntry → RelationEntry → List FieldKind
+abbrev pub kinds_in : ImageEntry → RelationEntry → List FieldForm
 kinds_in image relation = kinds (chosen (field_numbers image) relation.fields)
 
 -- an image's tuples may have the key

@@ -3,12 +3,12 @@ use Rattle.std.proofs.Common.{◌≡◌, ◌≢◌, ℕ, ◌<◌, inl, inr, Bool
 use Rattle.std.proofs.lemmas.Bool.{cases_eq}
 use Rattle.std.proofs.lemmas.List.{get_or-set_same, get_or-set_other, length-set, length-append, length-replicate}
 use Rattle.std.proofs.lemmas.Option.{same_Some}
-use Rattle.rss_chains.specs.Lists.{Has, Apart, without}
+use Rattle.rss_frames.specs.Lists.{Has, Apart, without}
 use Rattle.rss_base.specs.declared.key.PageKey.{PageKey}
-use Rattle.rss_chains.proofs.Lists.{Has-without, Has-kept, Apart-without, length-without}
-use Rattle.rss_chains.specs.Table.{key_at, IsAbsent}
-use Rattle.rss_chains.proofs.Table.{frame_within, none_at}
-use Rattle.rss_chains.specs.Recency.{Recency}
+use Rattle.rss_frames.proofs.Lists.{Has-without, Has-kept, Apart-without, length-without}
+use Rattle.rss_frames.specs.Table.{key_at, IsAbsent}
+use Rattle.rss_frames.proofs.Table.{frame_within, none_at}
+use Rattle.rss_frames.specs.Recency.{Recency}
 use Rattle.rss_frames.specs.State.{State}
 use Rattle.rss_frames.specs.Invariant.{IsFrames}
 
@@ -49,9 +49,9 @@ module _ (s : State) (r : ℕ) (free : Recency) (k : IsFrames s r free) where
   used_off_free i f h = let o = k.used_has i h in let never : None ≡ Some o.0 = sym (k.free_none i f) ∙ o.1 in cc
 
   -- a page comes into a free frame
-  pub admitted : (left : List ℕ) (left_room i : ℕ) (key : PageKey) (page : List ℕ) (mark : Bool) → free.frames ≡ left ++ i ∷ [] → left_room ≡ free.room → (Has i left → ⊥) → Has i free.frames → ((j : ℕ) → Has j left → Has j free.frames) → IsAbsent s.keys key → i < length s.keys
-      → IsFrames (record { keys = set s.keys i (Some key); used = i ∷ s.used; pages = set s.pages i page; marks = set s.marks i mark }) r (record { frames = left; room = left_room })
-  admitted left left_room i key page mark cut same_room gone in_free among absent within =
+  pub admitted : (left : List ℕ) (left_room i : ℕ) (key : PageKey) (mark : Bool) → free.frames ≡ left ++ i ∷ [] → left_room ≡ free.room → (Has i left → ⊥) → Has i free.frames → ((j : ℕ) → Has j left → Has j free.frames) → IsAbsent s.keys key → i < length s.keys
+      → IsFrames (record { keys = set s.keys i (Some key); used = i ∷ s.used; pages = s.pages; marks = set s.marks i mark }) r (record { frames = left; room = left_room })
+  admitted left left_room i key mark cut same_room gone in_free among absent within =
       let keys' = set s.keys i (Some key) in
       let put : key_at keys' i ≡ Some key = get_or-set_same s.keys i (Some key) None within in
       let kept : (j : ℕ) → j ≢ i → key_at keys' j ≡ key_at s.keys j = λ j off. get_or-set_other s.keys i j (Some key) None off in

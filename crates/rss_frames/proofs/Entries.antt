@@ -1,17 +1,16 @@
 -- The entries of frames.
-use Rattle.std.proofs.Common.{◌≡◌, ◌≢◌, ℕ, inl, inr, Bool, false, eqb, List, [], ◌∷◌, length, map, get_or, Option, Some, None, IsSome, unwrap_or, option_map, refl, sym, ◌∙◌, ap, subst, arith}
-use Prim.Native.Nat.{zero, suc}
-use Rattle.std.proofs.lemmas.Bool.{cases_eq, cases_Bool, eq-eqb, ne_eqb}
+use Rattle.std.proofs.Common.{◌≡◌, ◌≢◌, ℕ, inl, inr, Bool, false, eqb, List, [], ◌∷◌, length, map, get_or, Option, Some, None, IsSome, unwrap_or, option_map, refl, sym, ◌∙◌, ap, subst}
+use Rattle.std.proofs.lemmas.Bool.{cases_eq, eq-eqb, ne_eqb}
 use Rattle.std.proofs.lemmas.List.{length-map}
 use Rattle.rss_base.specs.Paged.{is_same}
-use Rattle.rss_chains.specs.Lists.{Has, Apart, without, last_frame}
+use Rattle.rss_frames.specs.Lists.{Has, Apart, without, last_frame}
 use Rattle.rss_base.specs.declared.key.PageKey.{PageKey}
 use Rattle.rss_base.proofs.Keys.{is_same-itself, is_same-other}
-use Rattle.rss_chains.specs.Table.{key_at, is_of, IsAbsent}
-use Rattle.rss_chains.proofs.Table.{is_of-true, is_of-itself}
-use Rattle.rss_chains.specs.Recency.{Recency}
+use Rattle.rss_frames.specs.Table.{key_at, IsAbsent}
+use Rattle.rss_frames.specs.Recency.{Recency}
 use Rattle.rss_frames.specs.State.{State}
-use Rattle.rss_frames.specs.Entries.{Held, held_at, no_key, entries, entry, others, eldest, AreDistinct, frame_of}
+use Rattle.rss_frames.specs.Entries.{Held, held_at, no_key, entries, entry, others, eldest, AreDistinct}
+use Rattle.rss_frames.specs.Frames.{frame_of, frame_in}
 use Rattle.rss_frames.specs.Invariant.{IsFrames}
 
 -- ---- lists of entries by their frames
@@ -63,15 +62,6 @@ held_is s j key bytes changed a b c = λ k. record { key = unwrap_or (a k) no_ke
 
 -- ---- a page's entry by its frame
 
-pub frame_at : (keys : List (Option PageKey)) (key : PageKey) (i : ℕ) → key_at keys i ≡ Some key → ((j : ℕ) → key_at keys j ≡ Some key → j ≡ i) → frame_of key keys ≡ i
-unfolding frame_of
-frame_at [] key i e only = absurd (cc)
-frame_at (o ∷ os) key zero e only = rw (is_of-itself key o e) refl
-frame_at (o ∷ os) key (suc i) e only = elim (cases_Bool (is_of key o)) [
-  | inl t ↦ absurd (omega (arith, only zero (is_of-true key o t)))
-  | inr f ↦ rw f (ap suc (frame_at os key i e (λ j g. omega (arith, only (suc j) g))))
-]
-
 module _ (s : State) (r : ℕ) (free : Recency) (k : IsFrames s r free) (key : PageKey) where
   pub found_same : (i : ℕ) → key_at s.keys i ≡ Some key → (j : ℕ) → Has j s.used → is_same (held_at s j).key key ≡ eqb i j
   found_same i at j h =
@@ -102,11 +92,11 @@ module _ (s : State) (r : ℕ) (free : Recency) (k : IsFrames s r free) (key : P
   unfolding entries
   absent_others none = others_none key (held_at s) s.used (absent_same none)
 
-  pub absent_from_entry : entry key (entries s) ≡ None → IsAbsent s.keys key
-  absent_from_entry none i at = let never : None ≡ Some (held_at s i) = sym none ∙ found_entry i at in cc
+  pub absent_from_entry : frame_in s key ≡ None → IsAbsent s.keys key
+  absent_from_entry none i at = let never : None ≡ Some (frame_of (held_at s i)) = sym none ∙ ap (option_map frame_of) (found_entry i at) in cc
 
-  pub there_from_entry : IsSome (entry key (entries s)) → IsAbsent s.keys key → ⊥
-  there_from_entry there none = let never = subst (λ (o : Option Held). IsSome o) (absent_entry none) there in cc
+  pub there_from_entry : IsSome (frame_in s key) → IsAbsent s.keys key → ⊥
+  there_from_entry there none = let never = subst (λ (o : Option Held). IsSome (option_map frame_of o)) (absent_entry none) there in cc
 
 pub length_entries : (s : State) → length (entries s) ≡ length s.used
 unfolding entries

@@ -1,3 +1,7 @@
+mod Lists
+mod Ring
+mod Chain
+mod Table
 pub mod Entries
 pub mod Changes
 pub mod Halves

@@ -1,5 +1,5 @@
 -- What is found of each page among entries that were changed.
-use Rattle.std.proofs.Common.{◌≡◌, ◌≢◌, ◌<◌, ◌≤◌, inl, inr, Bool, true, false, cond, List, [], ◌∷◌, ◌++◌, length, Option, Some, None, IsSome, option_map, refl, sym, ◌∙◌, ap, subst, arith}
+use Rattle.std.proofs.Common.{◌≡◌, ◌≢◌, ◌<◌, inl, inr, Bool, true, false, cond, List, [], ◌∷◌, ◌++◌, length, Option, Some, None, option_map, refl, sym, ◌∙◌, ap, subst, arith}
 use Rattle.std.specs.Prelude.{option_to_list}
 use Rattle.std.proofs.lemmas.Bool.{cases_Bool, cond-true, cond-false}
 use Rattle.std.proofs.lemmas.Option.{same_Some}
@@ -7,6 +7,7 @@ use Rattle.rss_base.specs.Paged.{is_same}
 use Rattle.rss_base.specs.declared.key.PageKey.{PageKey}
 use Rattle.rss_base.proofs.Keys.{is_same-true, is_same-itself}
 use Rattle.rss_frames.specs.Entries.{Held, entry, others, fronted, unchanged, settled, eldest, newest, AreDistinct}
+use Rattle.rss_frames.specs.Frames.{frame_of}
 
 -- what is found of a page is its entry
 pub entry_key : (key : PageKey) (es : List Held) (e : Held) → entry key es ≡ Some e → e.key ≡ key
@@ -127,22 +128,10 @@ none_eldest [] is = refl
 none_eldest (x ∷ []) is = absurd (cc)
 none_eldest (x ∷ y ∷ es) is = let none = none_eldest (y ∷ es) is in absurd (cc)
 
--- a page that is taken out leaves fewer
-pub length_others : (key : PageKey) (es : List Held) → length (others key es) ≤ length es
-unfolding others
-length_others key [] = omega arith
-length_others key (x ∷ es) = elim (cases_Bool (is_same x.key key)) [
-  | inl gone ↦ rw gone (omega (arith, length_others key es))
-  | inr off ↦ rw off (omega (arith, length_others key es))
-]
-
-pub fewer_others : (key : PageKey) (es : List Held) → IsSome (entry key es) → length (others key es) < length es
-unfolding entry others
-fewer_others key [] = λ some. absurd (cc)
-fewer_others key (x ∷ es) = elim (cases_Bool (is_same x.key key)) [
-  | inl gone ↦ rw gone (λ some. omega (arith, length_others key es))
-  | inr off ↦ rw off (λ some. omega (arith, fewer_others key es some))
-]
+-- a page that has no frame has no entry
+pub none_entry : (o : Option Held) → option_map frame_of o ≡ None → o ≡ None
+none_entry None none = refl
+none_entry (Some e) none = absurd (cc)
 
 -- the page that was used last is there
 pub entry_newest : (es : List Held) (e : Held) → newest es ≡ Some e → entry e.key es ≡ Some e
@@ -178,3 +167,8 @@ none_others key (x ∷ es) none = elim (cases_Bool (is_same x.key key)) [
 -- a page that isn't there is no use of any
 pub none_fronted : (key : PageKey) (es : List Held) → entry key es ≡ None → fronted key es ≡ es
 none_fronted key es none = rw none (none_others key es none)
+
+-- a page that came is taken out again
+pub others_new : (e : Held) (es : List Held) → entry e.key es ≡ None → others e.key (e ∷ es) ≡ es
+unfolding others
+others_new e es none = rw (is_same-itself e.key) (none_others e.key es none)

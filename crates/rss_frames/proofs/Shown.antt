@@ -1,21 +1,21 @@
 -- What the entries are after a change of the frames.
-use Rattle.std.proofs.Common.{◌≡◌, ◌≢◌, ℕ, ◌<◌, inl, inr, Bool, true, false, List, [], ◌∷◌, ◌++◌, length, map, get_or, set, Option, Some, None, is_some, MatchOption, option_map, drop, refl, sym, ◌∙◌, ap, subst, arith}
+use Rattle.std.proofs.Common.{◌≡◌, ◌≢◌, ℕ, ◌<◌, inl, inr, Bool, true, false, List, [], ◌∷◌, ◌++◌, length, map, get_or, set, Option, Some, None, is_some, MatchOption, option_map, refl, sym, ◌∙◌, ap, subst, arith}
 use Rattle.std.proofs.lemmas.Bool.{cases_eq, eq-eqb, ne_eqb}
-use Rattle.std.proofs.lemmas.List.{get_or-set_same, get_or-set_other, length-set, length-take-le, length-append, length-drop, take-append-le, take_all}
+use Rattle.std.proofs.lemmas.List.{get_or-set_same, get_or-set_other, length-set}
 use Rattle.std.proofs.lemmas.Option.{same_Some}
 use Rattle.rss_base.specs.Paged.{is_same}
-use Rattle.rss_chains.specs.Lists.{Has, without, last_frame}
+use Rattle.rss_frames.specs.Lists.{Has, without, last_frame}
 use Rattle.rss_base.specs.declared.key.PageKey.{PageKey}
-use Rattle.rss_chains.proofs.Lists.{Has-without}
-use Rattle.rss_chains.specs.Table.{key_at, IsAbsent, IsFound}
-use Rattle.rss_chains.proofs.Table.{frame_within}
-use Rattle.rss_chains.specs.Recency.{Recency}
+use Rattle.rss_frames.proofs.Lists.{Has-without}
+use Rattle.rss_frames.specs.Table.{key_at, IsAbsent, IsFound}
+use Rattle.rss_frames.proofs.Table.{frame_within}
+use Rattle.rss_frames.specs.Recency.{Recency}
 use Rattle.rss_frames.specs.State.{State}
-use Rattle.rss_frames.specs.Entries.{Held, held_at, entries, room, entry, others, bytes_of, fronted, written, changed_to, unchanged, settled, Shows, eldest, frame_of}
+use Rattle.rss_frames.specs.Entries.{Held, held_at, entries, room, others, fronted, written, changed_to, both_changed, unchanged, settled, Shows, eldest}
+use Rattle.rss_frames.specs.Frames.{frame_in, Admits}
 use Rattle.rss_frames.specs.Pairs.{with_two}
-use Rattle.rss_frames.specs.Lending.{touched, refilled, both_written, both_changed, IsLent}
 use Rattle.rss_frames.specs.Invariant.{IsFrames}
-use Rattle.rss_frames.proofs.Entries.{others_at, map_same, map_eldest, held_same, held_is, found_same, found_entry, found_others, absent_same, absent_entry, absent_others, frame_at}
+use Rattle.rss_frames.proofs.Entries.{others_at, map_same, map_eldest, held_same, held_is, found_same, found_entry, found_others, absent_same, absent_entry, absent_others}
 
 map_settled : (key : PageKey) (f g : ℕ → Held) (xs : List ℕ) → ((j : ℕ) → Has j xs → g j ≡ unchanged key (f j)) → map g xs ≡ map (unchanged key) (map f xs)
 map_settled key f g [] same = refl
@@ -33,7 +33,7 @@ module _ (s : State) (r : ℕ) (free : Recency) (k : IsFrames s r free) (key : P
   abbrev Absent : Type 0
   Absent = IsAbsent s.keys key
 
-  pub some_found : (o : Option ℕ) → MatchOption o Absent (λ frame. IsFound s.keys key frame) → is_some o ≡ is_some (entry key (entries s))
+  pub some_found : (o : Option ℕ) → MatchOption o Absent (λ frame. IsFound s.keys key frame) → is_some o ≡ is_some (frame_in s key)
   some_found None none = rw (absent_entry s r free k key none) refl
   some_found (Some i) found = rw (found_entry s r free k key i found.at) refl
 
@@ -95,31 +95,27 @@ module _ (s : State) (r : ℕ) (free : Recency) (k : IsFrames s r free) (key : P
           room_is = refl;
         }
 
-    pub bytes_found : (x : List ℕ) → x ≡ get_or s.pages i [] → Some x ≡ bytes_of (entry key (entries s))
-    bytes_found x e = rw (found_entry s r free k key i at) (ap Some e)
-
-  pub shown_admitted : (i : ℕ) (page : List ℕ) (mark : Bool) → (Has i s.used → ⊥) → i < length s.keys
-      → Shows (record { keys = set s.keys i (Some key); used = i ∷ s.used; pages = set s.pages i page; marks = set s.marks i mark }) (record { key = key; bytes = page; changed = mark } ∷ entries s) (room s)
-  unfolding entries
-  shown_admitted i page mark off within =
-      let t : State = record { keys = set s.keys i (Some key); used = i ∷ s.used; pages = set s.pages i page; marks = set s.marks i mark } in
-      let here = held_is t i key page mark (get_or-set_same s.keys i (Some key) None within) (get_or-set_same s.pages i page [] (omega (arith, within, k.pages_len))) (get_or-set_same s.marks i mark false (omega (arith, within, k.marks_len))) in
-      let kept : map (held_at t) s.used ≡ map (held_at s) s.used = map_same (held_at t) (held_at s) s.used (λ j h.
-      let away : j ≢ i = λ e. off (subst (λ (x : ℕ). Has x s.used) e h) in
-      held_same s t j (get_or-set_other s.keys i j (Some key) None away) (get_or-set_other s.pages i j page [] away) (get_or-set_other s.marks i j mark false away)) in
-      record { are = λ x. here x ∷ kept x; room_is = simp length-set refl }
+-- a page that was given a frame has the bytes that are put there
+pub shown_admitted : (s new : State) (r : ℕ) (free : Recency) → IsFrames new r free → (key : PageKey) (i : ℕ) (mark : Bool) → Admits key i mark s new → (page : List ℕ)
+    → Shows (record { keys = new.keys; used = new.used; pages = set new.pages i page; marks = new.marks }) (record { key = key; bytes = page; changed = mark } ∷ entries s) (room s)
+unfolding entries
+shown_admitted s new r free k key i mark admits page =
+    let keys : length new.keys ≡ length s.keys = ap (λ (n : State). length n.keys) admits.now ∙ length-set s.keys i (Some key) in
+    let pages : length s.pages ≡ length s.keys = sym (ap (λ (n : State). length n.pages) admits.now) ∙ k.pages_len ∙ keys in
+    let marks : length s.marks ≡ length s.keys = sym (ap (λ (n : State). length n.marks) admits.now ∙ length-set s.marks i mark) ∙ k.marks_len ∙ keys in
+    let within = admits.within in
+    let t : State = record { keys = set s.keys i (Some key); used = i ∷ s.used; pages = set s.pages i page; marks = set s.marks i mark } in
+    let here = held_is t i key page mark (get_or-set_same s.keys i (Some key) None within) (get_or-set_same s.pages i page [] (omega (arith, within, pages))) (get_or-set_same s.marks i mark false (omega (arith, within, marks))) in
+    let kept : map (held_at t) s.used ≡ map (held_at s) s.used = map_same (held_at t) (held_at s) s.used (λ j h.
+    let away : j ≢ i = λ e. admits.unused (subst (λ (x : ℕ). Has x s.used) e h) in
+    held_same s t j (get_or-set_other s.keys i j (Some key) None away) (get_or-set_other s.pages i j page [] away) (get_or-set_other s.marks i j mark false away)) in
+    rw admits.now (record { are = λ x. here x ∷ kept x; room_is = simp length-set refl })
 
 module _ (s : State) (r : ℕ) (free : Recency) (k : IsFrames s r free) where
   -- two pages are used and written
   module _ (first second : PageKey) (i j : ℕ) (at_i : key_at s.keys i ≡ Some first) (at_j : key_at s.keys j ≡ Some second) (apart : first ≢ second) where
     pub frames_apart : i ≢ j
     frames_apart e = apart (same_Some first second (sym at_i ∙ ap (key_at s.keys) e ∙ at_j))
-
-    frame_i : frame_of first s.keys ≡ i
-    frame_i = frame_at s.keys first i at_i (λ x e. k.sole x i first e at_i)
-
-    frame_j : frame_of second s.keys ≡ j
-    frame_j = frame_at s.keys second j at_j (λ x e. k.sole x j second e at_j)
 
     both_others : others first (others second (entries s)) ≡ map (held_at s) (without i (without j s.used))
     unfolding entries
@@ -129,7 +125,7 @@ module _ (s : State) (r : ℕ) (free : Recency) (k : IsFrames s r free) where
     abbrev mark_j : Bool
     mark_j = get_or s.marks j false
 
-    shown : (v w : List ℕ) → Shows (record { keys = s.keys; used = i ∷ without i (j ∷ without j s.used); pages = with_two s.pages i j v w; marks = set s.marks i true }) (both_changed first second mark_j v w (entries s)) (room s)
+    pub shown : (v w : List ℕ) → Shows (record { keys = s.keys; used = i ∷ without i (j ∷ without j s.used); pages = with_two s.pages i j v w; marks = set s.marks i true }) (both_changed first second mark_j v w (entries s)) (room s)
     unfolding entries
     shown v w =
         let wi = frame_within s.keys i first at_i in
@@ -153,39 +149,6 @@ module _ (s : State) (r : ℕ) (free : Recency) (k : IsFrames s r free) where
         let order : without i (j ∷ without j s.used) ≡ j ∷ rest = rw (ne_eqb i j frames_apart) refl in
         record { are = rw both_others (ap (λ (l : List ℕ). map (held_at t) (i ∷ l)) order ∙ (λ x. here_i x ∷ here_j x ∷ kept x)); room_is = refl }
 
-    pub lent : (pages : List (List ℕ)) → pages ≡ s.pages → IsLent s first second pages i j
-    lent pages e =
-        let wi = frame_within s.keys i first at_i in
-        let wj = frame_within s.keys j second at_j in
-        let len : length pages ≡ length s.keys = ap length e ∙ k.pages_len in
-        record {
-          pages_are = e;
-          first_at = sym frame_i;
-          second_at = sym frame_j;
-          apart = frames_apart;
-          first_within = omega (arith, wi, len);
-          second_within = omega (arith, wj, len);
-          both = record {
-            mark = mark_j;
-            first_is = rw (found_entry s r free k first i at_i) (ap (λ (ps : List (List ℕ)). Some (get_or ps i [])) (sym e));
-            second_is = found_entry s r free k second j at_j ∙ ap Some (held_is s j second (get_or pages j []) mark_j at_j (ap (λ (ps : List (List ℕ)). get_or ps j []) (sym e)) refl);
-            become = λ v w.
-                let There : ℕ → ℕ → Type 0 = λ a b. Shows (touched a b s (with_two s.pages a b v w)) (both_changed first second mark_j v w (entries s)) (room s) in
-                subst (λ (a : ℕ). There a (frame_of second s.keys)) (sym frame_i) (subst (λ (b : ℕ). There i b) (sym frame_j) (shown v w));
-          };
-        }
-
-    -- what lending all pages ends as, by the frames
-    pub ends_at : (pages : List (List ℕ)) → touched i j s pages ≡ touched (frame_of first s.keys) (frame_of second s.keys) s pages
-    ends_at pages = λ x. touched (sym frame_i x) (sym frame_j x) s pages
-
-pub length-refilled : (pages ws : List (List ℕ)) → length (refilled pages ws) ≡ length pages
-length-refilled pages ws = length-take-le (length pages) (ws ++ drop (length ws) pages) (simp (length-append, length-drop) (omega arith))
-
--- pages of the right number stay as they are
-pub refilled_whole : (pages ws : List (List ℕ)) → length ws ≡ length pages → refilled pages ws ≡ ws
-refilled_whole pages ws e = take-append-le (length pages) ws (drop (length ws) pages) (omega (arith, e)) ∙ take_all (length pages) ws (omega (arith, e))
-
 pub eldest_is : (s : State) → eldest (entries s) ≡ option_map (held_at s) (last_frame s.used)
 unfolding entries
 eldest_is s = map_eldest (held_at s) s.used
@@ -193,12 +156,3 @@ eldest_is s = map_eldest (held_at s) s.used
 pub entries_none : (s : State) → s.used ≡ [] → entries s ≡ []
 unfolding entries
 entries_none s e = ap (map (held_at s)) e
-
--- what writing to two of all pages ends as
-pub both_end : (s : State) (first second : PageKey) (pages : List (List ℕ)) (i j : ℕ) → IsLent s first second pages i j → (v w : List ℕ)
-    → touched (frame_of first s.keys) (frame_of second s.keys) s (refilled s.pages (with_two pages i j v w)) ≡ both_written first second s v w
-both_end s first second pages i j k v w =
-    let fi = frame_of first s.keys in
-    let fj = frame_of second s.keys in
-    ap (λ (ps : List (List ℕ)). touched fi fj s ps)
-    (ap (refilled s.pages) (λ x. with_two (k.pages_are x) (k.first_at x) (k.second_at x) v w) ∙ refilled_whole s.pages (with_two s.pages fi fj v w) (simp length-set refl))

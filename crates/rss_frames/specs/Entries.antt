@@ -3,7 +3,7 @@ use Rattle.std.specs.Prelude.{◌≡◌, ℕ, Bool, true, false, if◌then◌els
 use Rattle.rss_base.specs.Paged.{is_same}
 use Rattle.rss_base.specs.declared.key.Space.TheVariants.{Home}
 use Rattle.rss_base.specs.declared.key.PageKey.{PageKey}
-use Rattle.rss_chains.specs.Table.{key_at, is_of}
+use Rattle.rss_frames.specs.Table.{key_at}
 use Rattle.rss_frames.specs.State.{State}
 
 -- a page in memory, and whether it was changed
@@ -59,6 +59,10 @@ changed_to key bytes = record { key = key; bytes = bytes; changed = true }
 abbrev pub written : PageKey → List ℕ → List Held → List Held
 written key bytes es = changed_to key bytes ∷ others key es
 
+-- both pages go before all others with these bytes, the first one as changed, and the second one with this mark
+abbrev pub both_changed : PageKey → PageKey → Bool → List ℕ → List ℕ → List Held → List Held
+both_changed first second mark v w es = changed_to first v ∷ record { key = second; bytes = w; changed = mark } ∷ others first (others second es)
+
 abbrev pub unchanged : PageKey → Held → Held
 unchanged key e = record { key = e.key; bytes = e.bytes; changed = if is_same e.key key then false else e.changed }
 
@@ -89,8 +93,3 @@ AreDistinct (e ∷ es) = (entry e.key es ≡ None) × AreDistinct es
 pub record Shows (s : State) (es : List Held) (n : ℕ) : Type 0 where
   pub are : entries s ≡ es
   pub room_is : room s ≡ n
-
--- the frame of a page
-unfoldable pub frame_of : PageKey → List (Option PageKey) → ℕ
-frame_of key [] = 0
-frame_of key (o ∷ os) = if is_of key o then 0 else Prim.Native.Nat.suc (frame_of key os)

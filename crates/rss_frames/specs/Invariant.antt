@@ -1,9 +1,9 @@
 -- What holds of every set of frames.
 use Rattle.std.specs.Prelude.{◌≡◌, ℕ, ◌+◌, ◌<◌, length, Some, None}
-use Rattle.rss_chains.specs.Lists.{Has, Apart}
+use Rattle.rss_frames.specs.Lists.{Has, Apart}
 use Rattle.rss_base.specs.declared.key.PageKey.{PageKey}
-use Rattle.rss_chains.specs.Table.{key_at}
-use Rattle.rss_chains.specs.Recency.{Recency}
+use Rattle.rss_frames.specs.Table.{key_at}
+use Rattle.rss_frames.specs.Recency.{Recency}
 use Rattle.rss_frames.specs.State.{State}
 
 pub record IsFrames (s : State) (used_room : ℕ) (free : Recency) : Type 0 where

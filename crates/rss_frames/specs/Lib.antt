@@ -1,5 +1,10 @@
+pub mod Lists
+pub mod Links
+pub mod Recency
+pub mod Table
+pub mod Chains
 pub mod State
 pub mod Entries
 pub mod Invariant
 pub mod Pairs
-pub mod Lending
+pub mod Frames

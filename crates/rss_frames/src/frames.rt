@@ -1,11 +1,15 @@
 // Pages in memory.
-ghost use Rattle.std.specs.Prelude.{◌≡◌, ◌≢◌, ◌↔◌, ◌<◌, ◌≤◌, [], length, None, is_some, option_map, IsTrue, IsSome, IfSome, IfNone, IfOk};
-ghost use Rattle.std.specs.Option.{option_copied_mut};
-ghost use Rattle.std.specs.Borrow.{sem};
-ghost use Rattle.rss_chains.specs.Table.{IsFound, IsAbsent};
+ghost use Rattle.std.specs.Prelude.{◌≡◌, ◌≢◌, ◌⊎◌, ◌↔◌, ◌+◌, ◌<◌, ◌≤◌, [], length, Some, None};
+ghost use Rattle.std.specs.Prelude.{is_some, option_map, IsTrue, IsSome, IfSome, IfNone, IfOk, OnOk, OnErr};
+ghost use Rattle.rss_base.specs.Devices.{ReadsPages};
+ghost use Rattle.rss_base.specs.Sizes.{page_bytes};
+ghost use Rattle.rss_frames.specs.Table.{IsFound, IsAbsent};
+ghost use Rattle.rss_frames.specs.Lists.{Has};
 
-use rss_base::{PAGE_BYTES, Page, PageKey};
-use rss_chains::{KeyTable, Order};
+use crate::key_table::KeyTable;
+use crate::pairs::{TwoPages, pair};
+use crate::recency::Order;
+use rss_base::{Device, Failed, PAGE_BYTES, Page, PageKey, copy_bytes};
 use std::alloc::{AllocError, Global};
 use std::marker::Model;
 
@@ -20,13 +24,6 @@ pub struct Frames {
     free: Order,
     pages: Vec<Page>,
     changed: Vec<bool>,
-}
-
-/// All frames' pages, lent for writing, and the frames of two of them.
-pub struct LentPages<'a> {
-    pub pages: &'a mut [Page],
-    pub first: u32,
-    pub second: u32,
 }
 
 impl Model for Frames {
@@ -64,8 +61,8 @@ fn all_free(alloc: Global, count: u32) -> Result<Order, AllocError>
 }
 
 impl Frames {
-    ghost use Rattle.rss_frames.specs.Entries.{Shows, AreDistinct, entries, room, entry, IsEntry, others, bytes_of, fronted, settled, eldest, name_of};
-    ghost use Rattle.rss_frames.specs.Lending.{LendsPage, LendsNew, LendsAll, IsLent};
+    ghost use Rattle.rss_frames.specs.Entries.{Shows, AreDistinct, entries, room, fronted, written, others, settled, eldest, name_of};
+    ghost use Rattle.rss_frames.specs.Frames.{frame_in, HasRoom, Admits, ReadsIn, CopiesFrame};
 
     /// So many frames with no page as yet. Nothing else here takes memory.
     pub fn new(alloc: Global, frames: u32) -> Result<Frames, AllocError>
@@ -81,41 +78,26 @@ impl Frames {
         })
     }
 
-    /// How many pages are in memory.
-    pub fn len(&self) -> u32
-        ensures len { result ≡ length (entries self.now) }
-        ensures most { result ≤ room self.now }
-        ensures distinct { AreDistinct (entries self.now) }
-    {
-        self.used.len()
-    }
-
-    /// How many there may be. There is one at least.
-    pub fn room(&self) -> u32
-        ensures room { result ≡ room self.now }
-        ensures some { 0 < room self.now }
-    {
-        self.used.room()
-    }
-
     /// Whether each frame has a page.
     pub fn is_full(&self) -> bool
-        ensures { IsTrue result ↔ (room self.now ≤ length (entries self.now)) }
+        ensures full { IsTrue result ↔ (room self.now ≤ length (entries self.now)) }
+        ensures distinct { AreDistinct (entries self.now) }
     {
         self.used.len() >= self.used.room()
     }
 
     /// Whether a page is in memory.
     pub fn has(&self, key: PageKey) -> bool
-        ensures { result ≡ is_some (entry key (entries self.now)) }
+        ensures { result ≡ is_some (frame_in self.now key) }
     {
         self.table.find(key).is_some()
     }
 
     /// A page, where it is in memory, and whether it was changed. This is no use of it.
-    pub fn peek(&self, key: PageKey) -> Option<(&Page, bool)>
-        ensures some { IfSome result (λ r. IsEntry key r.0.now r.1 (entries self.now)) }
-        ensures none { IfNone result (entry key (entries self.now) ≡ None) }
+    pub fn get(&self, key: PageKey) -> Option<(&Page, bool)>
+        ensures some { IfSome result (λ r.
+            frame_in self.now key ≡ Some (record { page = r.0.now; changed = r.1 })) }
+        ensures none { IfNone result (frame_in self.now key ≡ None) }
     {
         let frame = self.table.find(key)?;
         Some((&self.pages[frame as usize], self.changed[frame as usize]))
@@ -123,7 +105,7 @@ impl Frames {
 
     /// Makes a page the one that was used last, where it is in memory, and tells whether it is.
     pub fn touch(&mut self, key: PageKey) -> bool
-        ensures there { result ≡ is_some (entry key (entries self.old)) }
+        ensures there { result ≡ is_some (frame_in self.old key) }
         ensures used { Shows self.new (fronted key (entries self.old)) (room self.old) }
     {
         if let Some(frame) = self.table.find(key) {
@@ -133,52 +115,63 @@ impl Frames {
         false
     }
 
-    /// A page to write to, where it is in memory. It becomes the one that was used last, and is
-    /// marked as changed.
-    pub fn get_mut(&mut self, key: PageKey) -> Option<&mut Page>
-        ensures* writes_back { sem 𝓛 (LendsPage self.entry key result) }
-        ensures value { option_copied_mut result ≡ bytes_of (entry key (entries self.old)) }
+    /// Puts a page into memory as one that was changed, in place of what is there of it. It becomes
+    /// the one that was used last.
+    pub fn put(&mut self, key: PageKey, page: &Page)
+        requires { HasRoom self.old ⊎ IsSome (frame_in self.old key) }
+        ensures { Shows self.new (written key page.now (entries self.old)) (room self.old) }
     {
-        let frame = self.table.find(key)?;
-        self.used.to_front(frame);
-        self.changed[frame as usize] = true;
-        Some(&mut self.pages[frame as usize])
+        if let Some(own) = self.table.find(key) {
+            self.used.to_front(own);
+            self.changed[own as usize] = true;
+            self.pages[own as usize] = *page;
+            return;
+        }
+        let frame = self.admit(key, true);
+        self.pages[frame as usize] = *page;
     }
 
-    /// Lends all pages for writing, with the frames of two that are in memory. These become the
-    /// ones that were used last, and the first of them is marked as changed: the second is there to
-    /// be read.
-    pub fn lend_all(&mut self, first: PageKey, second: PageKey) -> LentPages<'_>
-        requires first { IsSome (entry first (entries self.old)) }
-        requires second { IsSome (entry second (entries self.old)) }
-        requires apart { first ≢ second }
-        ensures* writes_back { sem 𝓛 (LendsAll self.entry first second result) }
-        ensures lent { IsLent self.old first second result.pages.now result.first result.second }
+    /// Reads a page that isn't in memory into a frame of its own. It becomes the one that was used
+    /// last.
+    pub fn read_in<D: Device>(
+        &mut self,
+        key: PageKey,
+        device: &mut D,
+        at: u64,
+    ) -> Result<(), Failed>
+        requires room { HasRoom self.old }
+        requires absent { frame_in self.old key ≡ None }
+        requires within { at < (D.view device.old).size }
+        ensures ok { OnOk result (ReadsIn key at (D.view device.old).disk self.old self.new) }
+        ensures err { OnErr result (entries self.new ≡ entries self.old) }
+        ensures room { room self.new ≡ room self.old }
+        ensures did { ReadsPages (D.view device.old) (D.view device.new) result }
     {
-        let low = place(&self.table, first);
-        let high = place(&self.table, second);
+        let frame = self.admit(key, false);
+        let result = device.read(at, &mut self.pages[frame as usize]);
+        if result.is_err() {
+            self.remove(key);
+        }
+        result
+    }
+
+    /// Copies so many bytes of a page that is in memory into another one that is, and marks this one
+    /// as changed. Both are lent at once, and become the ones that were used last.
+    pub fn copy(&mut self, from: PageKey, from_at: usize, to: PageKey, to_at: usize, count: usize)
+        requires from { IsSome (frame_in self.old from) }
+        requires to { IsSome (frame_in self.old to) }
+        requires apart { from ≢ to }
+        requires from_within { from_at + count ≤ page_bytes }
+        requires to_within { to_at + count ≤ page_bytes }
+        ensures { CopiesFrame from from_at to to_at count self.old self.new }
+    {
+        let low = place(&self.table, to);
+        let high = place(&self.table, from);
         self.used.to_front(high);
         self.used.to_front(low);
         self.changed[low as usize] = true;
-        LentPages {
-            pages: self.pages.as_mut_slice(),
-            first: low,
-            second: high,
-        }
-    }
-
-    /// Gives a page that isn't in memory a free frame, where there is one, and lends its bytes to
-    /// be filled. What they are is any. The page becomes the one that was used last.
-    pub fn admit(&mut self, key: PageKey, changed: bool) -> Option<&mut Page>
-        requires absent { entry key (entries self.old) ≡ None }
-        ensures* writes_back { sem 𝓛 (LendsNew self.entry key changed result) }
-        ensures free { IsSome result ↔ (length (entries self.old) < room self.old) }
-    {
-        let frame = self.free.pop_last()?;
-        self.table.insert(frame, key);
-        self.used.push_front(frame);
-        self.changed[frame as usize] = changed;
-        Some(&mut self.pages[frame as usize])
+        let TwoPages { first, second } = pair(self.pages.as_mut_slice(), low, high);
+        copy_bytes(second, from_at, first, to_at, count);
     }
 
     /// The page that wasn't used for the longest time, and whether it was changed.
@@ -192,7 +185,8 @@ impl Frames {
 
     /// Takes a page out of memory, where it is there.
     pub fn remove(&mut self, key: PageKey)
-        ensures { Shows self.new (others key (entries self.old)) (room self.old) }
+        ensures gone { Shows self.new (others key (entries self.old)) (room self.old) }
+        ensures free { IsSome (frame_in self.old key) → HasRoom self.new }
     {
         if let Some(frame) = self.table.find(key) {
             self.table.remove(frame, key);
@@ -208,5 +202,21 @@ impl Frames {
         if let Some(frame) = self.table.find(key) {
             self.changed[frame as usize] = false;
         }
+    }
+
+    /// Gives a page that isn't in memory a free frame. What its bytes are is any. The page becomes
+    /// the one that was used last.
+    fn admit(&mut self, key: PageKey, changed: bool) -> u32
+        requires room { HasRoom self.old }
+        requires absent { frame_in self.old key ≡ None }
+        ensures { Admits key result changed self.old self.new }
+    {
+        let Some(frame) = self.free.pop_last() else {
+            unreachable!()
+        };
+        self.table.insert(frame, key);
+        self.used.push_front(frame);
+        self.changed[frame as usize] = changed;
+        frame
     }
 }

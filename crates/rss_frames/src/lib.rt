@@ -2,7 +2,8 @@
 #![tactic(auto)]
 
 mod frames;
+mod key_table;
 mod pairs;
+mod recency;
 
-pub use frames::{Frames, LentPages};
-pub use pairs::{TwoPages, pair};
+pub use frames::Frames;

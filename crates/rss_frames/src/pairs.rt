@@ -6,9 +6,9 @@ ghost use Rattle.rss_frames.specs.Pairs.{LendsPair, page_at};
 use rss_base::Page;
 
 /// Two pages, both lent for writing.
-pub struct TwoPages<'a> {
-    pub first: &'a mut Page,
-    pub second: &'a mut Page,
+pub(crate) struct TwoPages<'a> {
+    pub(crate) first: &'a mut Page,
+    pub(crate) second: &'a mut Page,
 }
 
 /// Two pages of a slice.
@@ -42,7 +42,7 @@ fn high_low(pages: &mut [Page], high: u32, low: u32) -> TwoPages<'_>
 }
 
 /// Two pages of a slice, both lent for writing.
-pub fn pair(pages: &mut [Page], first: u32, second: u32) -> TwoPages<'_>
+pub(crate) fn pair(pages: &mut [Page], first: u32, second: u32) -> TwoPages<'_>
     requires apart { first ≢ second }
     requires first_within { first < length pages.old }
     requires second_within { second < length pages.old }

@@ -50,6 +50,8 @@ impl<P: Pages> Pages for Watched<P> {
 
     ghost allowed = { λ w. P.allowed w.pages };
 
+    ghost few_slots = { λ w. P.few_slots w.pages };
+
     ghost are_counted = { λ w. P.are_counted w.pages };
 
     ghost noted_are = { λ w. P.noted_are w.pages };

@@ -26,6 +26,8 @@ impl<P: Pages> Untold<P> {
 impl<P: Pages> Pages for Untold<P> {
     ghost view = { λ u. untold (P.view u.pages) };
 
+    ghost few_slots = { λ u. P.few_slots u.pages };
+
     ghost reads_as_image = { λ u pages told. absurd (never_told (record { pages = pages; is = told })) };
 
     ghost stays = { λ u settled told. absurd (never_told told) };

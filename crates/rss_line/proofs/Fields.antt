@@ -1,5 +1,5 @@
 -- The name and the kind of a field.
-use Rattle.std.proofs.Common.{◌≡◌, ◌∙◌, ℕ, List, Option, Some, None, ap₂, arith, append_assoc}
+use Rattle.std.proofs.Common.{◌≡◌, ◌∙◌, ℕ, List, Option, Some, None, arith, append_assoc}
 use Rattle.std.specs.Prelude.{MatchOption, codes}
 use Rattle.std.specs.Borrow.{Bor}
 use Rattle.std.proofs.lemmas.Str.Pattern.{IsSplitOnceResult, split_after}
@@ -24,5 +24,5 @@ module _ (word : List ℕ) (r : Option (Bor (List ℕ) × Bor (List ℕ))) (fiel
       let two = MatchOption-at_some ⊥ (λ x. (x.0.now ≡ name_text field.name) × (x.1.now ≡ field_kind_text field.kind)) x some parts in
       (record { spelled = two.0; is_name = is.is_name }, record { spelled = two.1; allowed = is.kind })
 
-pub same_field : (x y : FieldDef) → x.name ≡ y.name → x.kind ≡ y.kind → x ≡ y
-same_field x y name kind = ap₂ (λ n k. record { name = n; kind = k }) name kind
+pub same_field : (x y : FieldDef) → x.name ≡ y.name → x.kind ≡ y.kind → x.added ≡ y.added → x ≡ y
+same_field x y name kind added = λ i. record { name = name i; kind = kind i; added = added i }

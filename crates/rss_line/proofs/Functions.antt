@@ -127,4 +127,4 @@ one_field word x y is has =
     (sym (append_assoc (name_text x.name) (codes ":") (field_kind_text x.kind)) ∙ (sym is.spelled ∙ (has.spelled ∙ append_assoc (name_text y.name) (codes ":") (field_kind_text y.kind)))) in
     same_field x y
     (one_name (name_text x.name) x.name y.name (record { spelled = refl; is_name = is.is_name }) (record { spelled = parts.0; is_name = has.is_name }))
-    (one_kind x.kind y.kind is.kind has.kind parts.1)
+    (one_kind x.kind y.kind is.kind has.kind parts.1) (is.original ∙ sym has.original)

@@ -1,25 +1,25 @@
 -- A line is at most one call.
 use Rattle.std.proofs.Common.{◌≡◌, ◌∙◌, inl, inr, ℕ, Bool, true, ◌&&◌, List, [], ◌∷◌, ◌++◌, Option, None, Ok, refl, ap, sym, subst, arith, append_assoc, append-nil}
-use Rattle.std.specs.Prelude.{◌≢◌, All, ⊤, codes}
+use Rattle.std.specs.Prelude.{⊤, codes}
 use Rattle.std.proofs.lemmas.Bool.{and_parts}
 use Rattle.std.proofs.lemmas.Fmt.{signed_decimal_injective}
-use Rattle.std.proofs.lemmas.List.Elements.{All-head}
 use Rattle.rss_base.specs.declared.tid.Tid.{Tid}
 use Rattle.rss_base.specs.declared.spot.Spot.{Spot}
 use Rattle.rss_base.specs.declared.item.Item.{Item}
-use Rattle.rss_base.specs.declared.value.Value.TheVariants.{Int, Text}
+use Rattle.rss_base.specs.declared.value.Value.{Value}
+use Rattle.rss_base.specs.declared.value.Value.TheVariants.{Int, Text, Undefined}
 use Rattle.rss_base.specs.declared.name.Name.{Name}
 use Rattle.rss_base.specs.declared.call.Call.{Call}
 use Rattle.rss_model.specs.Variables.{Variable}
 use Rattle.rss_model.specs.Spellings.{space, quote, doubled}
 use Rattle.rss_model.specs.Script.{Begins, HasWords, IsTransaction, IsNameWord, IsVariable, IsTidIn, IsNumberIn, IsValue, AreValues, StandFor, AreNames, AreFieldWords}
 use Rattle.rss_model.specs.Forms.{Row, Last, Word, Fixed, Rest, Either, OneOf, Named, LinkForm, PlaceForm, LockOf, spots, drops, scans, locks, calls, IsStatement}
-use Rattle.rss_line.specs.Reads.{IsPlain, IsThe, IsInt, IsOff, Skips, ReadsWord, ReadsWords, Gives, Behind}
+use Rattle.rss_line.specs.Reads.{IsPlain, IsThe, IsInt, IsPlainValue, IsOff, Skips, ReadsWord, ReadsWords, Gives, Behind}
 use Rattle.rss_line.specs.Once.{LinesSpellOnce}
 use Rattle.rss_line.proofs.Cuts.{IsSolid, plain_solid, skipped, same_front, at_once, apart_off}
-use Rattle.rss_line.proofs.Plain.{IsLow, equals_plain, transaction_plain, name_plain, name_solid, variable_plain, variable_low, tid_in_plain, tid_in_low, number_in_plain, mode_plain, int_plain, field_plain, field_solid, signed_off}
+use Rattle.rss_line.proofs.Plain.{IsLow, equals_plain, transaction_plain, name_plain, name_solid, variable_plain, variable_low, tid_in_plain, tid_in_low, number_in_plain, mode_plain, field_plain, field_solid}
 use Rattle.rss_line.proofs.Combining.{ArePlain, AreSolid, has_as, then_word, then_fixed, then_rest, ends_here, is_first, is_second, NeedsWord, needs_word, needs_fixed, no_words_left, some_words_left}
-use Rattle.rss_line.proofs.ValueTexts.{value_solid, value_int, value_quoted, quoted_read}
+use Rattle.rss_line.proofs.ValueTexts.{plain_value_plain, value_solid, plain_off, int_undefined, value_plain, value_quoted, quoted_read}
 use Rattle.rss_line.proofs.Sequences.{GoesOn, goes_start, goes_more, goes_end}
 use Rattle.rss_line.proofs.Functions.{IsFunction, one_transaction, one_name, one_variable, one_tid_in, one_number_in, one_mode, one_field}
 use Rattle.rss_line.proofs.Choosing.{is_written, are_written, first_word, written_plain, written_high, IsNoneOf, has_none, none_of, none_has, same_first, same_rest}
@@ -55,16 +55,22 @@ once_plain {Is = Is} plain function old word rest x begins is = record {
 one_int : IsFunction IsInt
 one_int word x y is has = signed_decimal_injective x y (mag_fits x is.proper) (mag_fits y has.proper) (sym is.spelled ∙ has.spelled)
 
-quote_off : (word rest : List ℕ) → All (λ b. b ≢ quote) word → word ≢ [] → IsOff quote (word ++ rest)
-quote_off [] rest off some = absurd (some refl)
-quote_off (b ∷ word) rest off some = All-head (λ n. n ≢ quote) b word off
+one_plain_value : IsFunction IsPlainValue
+one_plain_value word (Text bytes) y is has = absurd is
+one_plain_value word x (Text bytes) is has = absurd has
+one_plain_value word (Int x) (Int y) is has = ap Int (one_int word x y is has)
+one_plain_value word (Int x) Undefined is has = absurd (int_undefined word x is has)
+one_plain_value word Undefined (Int y) is has = absurd (int_undefined word y has is)
+one_plain_value word Undefined Undefined is has = refl
+
+once_plain_value : (old word rest : List ℕ) (value : Value) → Begins old word rest → IsPlainValue word value → ReadsWord IsValue old rest (Ok value)
+once_plain_value old word rest value begins is =
+    value_plain (Ok value) (skips_to begins (plain_solid word (plain_value_plain word value is))) (plain_off word value is rest)
+    (once_plain {Is = IsPlainValue} plain_value_plain one_plain_value (word ++ rest) word rest value (at_once refl begins.apart) is)
 
 once_value : IsOnce IsValue
-once_value old word rest (Int z) begins is =
-    let plain = int_plain word z (record { spelled = is.spelled; proper = is.proper }) in
-    let off = quote_off word rest (subst (All (λ b. b ≢ quote)) (sym is.spelled) (signed_off quote z (omega arith) is.proper)) plain.some in
-    value_int (skips_to begins (plain_solid word plain)) off
-    (once_plain {Is = IsInt} int_plain one_int (word ++ rest) word rest z (at_once refl begins.apart) (record { spelled = is.spelled; proper = is.proper }))
+once_value old word rest (Int z) begins is = once_plain_value old word rest (Int z) begins (record { spelled = is.spelled; proper = is.proper })
+once_value old word rest Undefined begins is = once_plain_value old word rest Undefined begins (record { spelled = is.spelled; proper = is.proper })
 once_value old word rest (Text bytes) begins is =
     let at : word ++ rest ≡ quote ∷ (doubled bytes ++ quote ∷ rest) = ap (λ w. w ++ rest) is.spelled ∙ ap (λ l. quote ∷ l) (append_assoc (doubled bytes) (quote ∷ []) rest) in
     value_quoted (Ok (Text bytes)) (skips_to begins (value_solid word (Text bytes) is)) at

@@ -203,6 +203,13 @@ digits_low (b ∷ word) all some = omega (arith, All-head (λ b. b < 58) b word 
 decimal_low : (n : ℕ) → n < 2 ^ 64 → IsLow (decimal n)
 decimal_low n small = digits_low (decimal n) (digits_below n small) (decimal_some n small)
 
+signed_low : (z : ℤ) → FitsSigned w64 z → IsLow (signed_decimal z)
+signed_low (pos n) fits = decimal_low n (omega (arith, ints, fits))
+signed_low (negsuc n) fits = omega arith
+
+pub int_low : (word : List ℕ) (z : ℤ) → IsInt word z → IsLow word
+int_low word z is = subst IsLow (sym is.spelled) (signed_low z is.proper)
+
 pub variable_low : (word : List ℕ) (name : Name) → IsVariable word name → IsLow word
 variable_low word name is = subst IsLow (sym is.spelled) (omega arith)
 

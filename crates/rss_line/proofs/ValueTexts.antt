@@ -1,36 +1,48 @@
--- Values: numbers, and texts between quotes.
-use Rattle.std.proofs.Common.{◌≡◌, ◌∙◌, ℕ, ℤ, List, [], ◌∷◌, ◌++◌, Result, Ok, Err, IsErrAnd, refl, ap, sym, subst, arith, append_assoc, append-nil}
-use Rattle.std.specs.Prelude.{◌≢◌, All}
+-- Values: numbers, texts between quotes, and the word for what is undefined.
+use Rattle.std.proofs.Common.{◌≡◌, ◌∙◌, ℕ, ℤ, List, [], ◌∷◌, ◌++◌, Some, Result, Ok, Err, IfOk, IsErrAnd, refl, ap, sym, subst, arith, append_assoc, append-nil}
+use Rattle.std.specs.Prelude.{◌≢◌, All, codes}
 use Rattle.std.proofs.lemmas.List.Elements.{All-nil, All-head}
 use Rattle.rss_base.specs.declared.value.Value.{Value}
-use Rattle.rss_base.specs.declared.value.Value.TheVariants.{Int, Text}
+use Rattle.rss_base.specs.declared.value.Value.TheVariants.{Int, Text, Undefined}
 use Rattle.rss_model.specs.Spellings.{space, quote, doubled}
 use Rattle.rss_model.specs.Script.{IsApart, Begins, IsValue}
-use Rattle.rss_line.specs.Reads.{IsOff, Skips, IsInt, ReadsWord, ReadsText}
+use Rattle.rss_line.specs.Reads.{IsOff, IsPlain, IsInt, IsPlainValue, Skips, ReadsAs, ReadsWord, ReadsText, Gives}
 use Rattle.rss_line.specs.declared.fault.LineFault.{LineFault}
 use Rattle.rss_line.specs.declared.fault.LineFault.TheVariants.{Words, NoMemory}
 use Rattle.rss_line.proofs.Pieces.{doubled-append}
-use Rattle.rss_line.proofs.Cuts.{same_head, same_tail, not_empty, IsSolid, plain_solid, skipped, at_once, no_second, same_text, apart_off}
-use Rattle.rss_line.proofs.Plain.{signed_off, int_plain}
-use Rattle.rss_line.proofs.Combining.{AreSolid, behind_spaces}
+use Rattle.rss_line.proofs.Cuts.{same_tail, not_empty, IsSolid, plain_solid, skipped, at_once, no_second, same_text, apart_off}
+use Rattle.rss_line.proofs.Plain.{IsLow, signed_off, int_plain, int_low}
+use Rattle.rss_line.proofs.Combining.{ArePlain, AreSolid, some_same, behind_spaces}
+use Rattle.rss_line.proofs.Choosing.{written_plain, written_high}
 
 -- ---- a value's first byte
 
 text_solid : {word rest : List ℕ} → word ≡ quote ∷ rest → IsSolid word
 text_solid e = subst IsSolid (sym e) (λ is. omega (arith, is))
 
+pub plain_value_plain : ArePlain IsPlainValue
+plain_value_plain word (Int z) is = int_plain word z is
+plain_value_plain word (Text bytes) is = absurd is
+plain_value_plain word Undefined is = subst IsPlain (sym is.spelled) (written_plain (codes "undefined") refl)
+
+-- a number begins with no letter
+pub int_undefined : (word : List ℕ) (z : ℤ) → IsInt word z → IsValue word Undefined → ⊥
+int_undefined word z is has = written_high (codes "undefined") refl (subst IsLow has.spelled (int_low word z is))
+
 pub value_solid : AreSolid IsValue
 value_solid word (Int z) is = plain_solid word (int_plain word z (record { spelled = is.spelled; proper = is.proper }))
 value_solid word (Text bytes) is = text_solid is.spelled
+value_solid word Undefined is = plain_solid word (plain_value_plain word Undefined is)
 
-no_quote : (word rest bytes : List ℕ) → All (λ b. b ≢ quote) word → word ≢ [] → quote ∷ bytes ≡ word ++ rest → ⊥
-no_quote [] rest bytes off some e = some refl
-no_quote (b ∷ word) rest bytes off some e = All-head (λ n. n ≢ quote) b word off (sym (same_head e))
+quote_off : (word rest : List ℕ) → All (λ b. b ≢ quote) word → word ≢ [] → IsOff quote (word ++ rest)
+quote_off [] rest off some = absurd (some refl)
+quote_off (b ∷ word) rest off some = All-head (λ n. n ≢ quote) b word off
 
--- a number begins with no quote
-int_off : {word : List ℕ} {z : ℤ} → IsInt word z → (rest bytes : List ℕ) → quote ∷ bytes ≡ word ++ rest → ⊥
-int_off {word = word} {z = z} is rest bytes e =
-    no_quote word rest bytes (subst (All (λ b. b ≢ quote)) (sym is.spelled) (signed_off quote z (omega arith) is.proper)) (int_plain word z is).some e
+-- a value without quotes begins with none
+pub plain_off : (word : List ℕ) (value : Value) → IsPlainValue word value → (rest : List ℕ) → IsOff quote (word ++ rest)
+plain_off word (Int z) is rest = quote_off word rest (subst (All (λ b. b ≢ quote)) (sym is.spelled) (signed_off quote z (omega arith) is.proper)) (int_plain word z is).some
+plain_off word (Text bytes) is rest = absurd is
+plain_off word Undefined is rest = subst (λ w. IsOff quote (w ++ rest)) (sym is.spelled) (λ same. omega (arith, same))
 
 -- what begins with no space
 off_skips : {bytes : List ℕ} → IsOff space bytes → Skips bytes bytes
@@ -38,12 +50,17 @@ off_skips off = record { spaces = []; before = All-nil (λ n. n ≡ space); part
 
 -- ---- a text
 
+-- where a quote is next, no value without quotes is
+no_plain : {bytes word rest : List ℕ} (value : Value) → Begins (quote ∷ bytes) word rest → IsPlainValue word value → ⊥
+no_plain {bytes = bytes} {word = word} {rest = rest} value begins is =
+    no_second (word ++ rest) bytes (plain_off word value is rest)
+    (sym (skipped (off_skips {bytes = quote ∷ bytes} (λ same. omega (arith, same))) (plain_solid word (plain_value_plain word value is)) begins))
+
 -- a value that begins with a quote is a text
 pub quote_front : {bytes word rest : List ℕ} (value : Value) → Begins (quote ∷ bytes) word rest → IsValue word value
     → (text : List ℕ) × (value ≡ Text text) × (bytes ≡ doubled text ++ quote ∷ rest)
-quote_front {bytes = bytes} {word = word} {rest = rest} (Int z) begins is =
-    absurd (int_off {word = word} {z = z} (record { spelled = is.spelled; proper = is.proper }) rest bytes
-    (skipped (off_skips {bytes = quote ∷ bytes} (λ same. omega (arith, same))) (value_solid word (Int z) is) begins))
+quote_front (Int z) begins is = absurd (no_plain (Int z) begins (record { spelled = is.spelled; proper = is.proper }))
+quote_front Undefined begins is = absurd (no_plain Undefined begins (record { spelled = is.spelled; proper = is.proper }))
 quote_front {bytes = bytes} {word = word} {rest = rest} (Text text) begins is =
     let all = skipped (off_skips {bytes = quote ∷ bytes} (λ same. omega (arith, same))) (value_solid word (Text text) is) begins in
     (text, refl, same_tail (all ∙ ap (λ l. l ++ rest) is.spelled) ∙ append_assoc (doubled text) (quote ∷ []) rest)
@@ -96,18 +113,29 @@ no_text : {mid word rest bytes : List ℕ} → IsOff space mid → IsOff quote m
 no_text {mid = mid} {word = word} {rest = rest} {bytes = bytes} off other begins is =
     no_second mid ((doubled bytes ++ quote ∷ []) ++ rest) other (skipped (off_skips off) (value_solid word (Text bytes) is) begins ∙ ap (λ l. l ++ rest) is.spelled)
 
-module _ {old mid new : List ℕ} (skips : Skips old mid) (off : IsOff quote mid) where
-  pub value_int : {z : ℤ} → ReadsWord IsInt mid new (Ok z) → ReadsWord IsValue old new (Ok (Int z))
-  value_int {z = z} reads = behind_spaces value_solid (Ok (Int z)) skips (record { ok = reads.ok; all = all })
-    where
-      all : (word rest : List ℕ) (value : Value) → Begins mid word rest → IsValue word value → (Int z ≡ value) × (new ≡ rest)
-      all word rest (Int y) begins is = let read = reads.all word rest y begins is in (ap Int read.0, read.1)
-      all word rest (Text bytes) begins is = absurd (no_text skips.off off begins is)
+-- a number is no other value
+pub reads_int : (word : List ℕ) (z : ℤ) → ReadsAs (IsInt word) (Some z) → ReadsAs (IsPlainValue word) (Some (Int z))
+reads_int word z reads = record { some = reads.some; all = all }
+  where
+    all : (value : Value) → IsPlainValue word value → Some (Int z) ≡ Some value
+    all (Int y) is = ap (λ x. Some (Int x)) (some_same (reads.all y is))
+    all (Text bytes) is = absurd is
+    all Undefined is = absurd (int_undefined word z reads.some is)
 
-  pub value_missing : {e : LineFault} (r : Result Value LineFault) → ReadsWord IsInt mid new (Err e) → IsErrAnd r (λ why. why ≡ e) → ReadsWord IsValue old new r
-  value_missing (Ok x) reads is = absurd is
-  value_missing {e = e} (Err f) reads is = behind_spaces value_solid (Err f) skips (record { ok = tt; all = all })
-    where
-      all : (word rest : List ℕ) (value : Value) → Begins mid word rest → IsValue word value → f ≡ NoMemory
-      all word rest (Int y) begins has = is ∙ reads.all word rest y begins has
-      all word rest (Text bytes) begins has = absurd (no_text skips.off off begins has)
+-- where no quote is next, a value is one without quotes
+pub value_plain : {old mid new : List ℕ} (r : Result Value LineFault) → Skips old mid → IsOff quote mid → ReadsWord IsPlainValue mid new r → ReadsWord IsValue old new r
+value_plain {mid = mid} {new = new} r skips off reads = behind_spaces value_solid r skips (record { ok = ok r reads.ok; all = all })
+  where
+    is_value : (word : List ℕ) (value : Value) → IsPlainValue word value → IsValue word value
+    is_value word (Int z) is = record { spelled = is.spelled; proper = is.proper }
+    is_value word (Text bytes) is = absurd is
+    is_value word Undefined is = is
+
+    ok : (r : Result Value LineFault) → IfOk r (λ x. (word : List ℕ) × Begins mid word new × IsPlainValue word x) → IfOk r (λ x. (word : List ℕ) × Begins mid word new × IsValue word x)
+    ok (Ok x) (word, begins, is) = (word, begins, is_value word x is)
+    ok (Err e) reads = tt
+
+    all : (word rest : List ℕ) (value : Value) → Begins mid word rest → IsValue word value → Gives value (new ≡ rest) r
+    all word rest (Int y) begins is = reads.all word rest (Int y) begins (record { spelled = is.spelled; proper = is.proper })
+    all word rest (Text bytes) begins is = absurd (no_text skips.off off begins is)
+    all word rest Undefined begins is = reads.all word rest Undefined begins is

@@ -2,7 +2,8 @@
 use Rattle.std.specs.Prelude.{◌≡◌, ◌≢◌, ℕ, ℤ, Bool, true, false, not, ◌==◌, List, [], ◌∷◌, ◌++◌, All, Option, Some, None, IfSome, Result, Ok, Err, IfOk, IsErrOf, ⊤, ◌<◌, length, get_or, pos, decimal}
 use Rattle.std.specs.Result.{MatchResult}
 use Rattle.std.specs.Str.{IsAscii}
-use Rattle.rss_base.specs.declared.value.Value.TheVariants.{Int}
+use Rattle.rss_base.specs.declared.value.Value.{Value}
+use Rattle.rss_base.specs.declared.value.Value.TheVariants.{Int, Text, Undefined}
 use Rattle.std.specs.Borrow.{Bor}
 use Rattle.rss_base.specs.TupleTypes.{is_kind}
 use Rattle.rss_base.specs.declared.value.FieldKind.{FieldKind}
@@ -74,6 +75,12 @@ IsThe expected word done = word ≡ expected
 
 abbrev pub IsInt : List ℕ → ℤ → Type 0
 IsInt word z = IsValue word (Int z)
+
+-- a value without quotes
+abbrev pub IsPlainValue : List ℕ → Value → Type 0
+IsPlainValue word (Int z) = IsInt word z
+IsPlainValue word (Text bytes) = ⊥
+IsPlainValue word Undefined = IsValue word Undefined
 
 -- the sign of a number below zero
 abbrev pub minus : ℕ

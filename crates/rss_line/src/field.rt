@@ -15,7 +15,11 @@ pub fn read_field(word: &str) -> Option<FieldDef>
     let (name, kind) = word.split_once(':')?;
     let name = read_name(name.as_bytes())?;
     let kind = read_kind(kind)?;
-    Some(FieldDef { name, kind })
+    Some(FieldDef {
+        name,
+        kind,
+        added: false,
+    })
 }
 
 /// `int`, or `text` and the most bytes that a text may have.

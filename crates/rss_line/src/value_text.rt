@@ -26,6 +26,7 @@ fn append_value(value: &Value, into: &mut Vec<u8>) -> Result<(), AllocError>
     match value {
         Value::Int(number) => append_int(*number, into)?,
         Value::Text(text) => append_quoted(text.as_slice(), into)?,
+        Value::Undefined => into.extend_from_slice(b"undefined")?,
     }
     Ok(())
 }

@@ -3,7 +3,7 @@ ghost use Rattle.std.specs.Prelude.{◌≡◌, ◌≤◌, ◌∷◌, length};
 ghost use Rattle.std.specs.List.{prefix_len};
 ghost use Rattle.rss_model.specs.Spellings.{quote};
 ghost use Rattle.rss_model.specs.Script.{IsValue, AreValues};
-ghost use Rattle.rss_line.specs.Reads.{IsInt, ReadsWord, ReadsQuote, ReadsByte, ReadsText};
+ghost use Rattle.rss_line.specs.Reads.{IsPlainValue, ReadsAs, ReadsWord, ReadsQuote, ReadsByte, ReadsText};
 ghost use Rattle.rss_line.specs.Reads.{is_unquoted, ReadsUnquoted, HasLength, ReadsWords, NeedsNoMemory};
 
 use crate::LineFault;
@@ -11,6 +11,19 @@ use crate::number::read_int;
 use crate::reader::Reader;
 use rss_base::{MOST_FIELDS, Text, Tuple, Value};
 use std::alloc::Global;
+
+/// A value without quotes: a number, or the word for what is undefined.
+fn read_plain_value(word: &[u8]) -> Option<Value>
+    ensures { ReadsAs (IsPlainValue word.now) result }
+{
+    if let Some(number) = read_int(word) {
+        Some(Value::Int(number))
+    } else if word == b"undefined".as_slice() {
+        Some(Value::Undefined)
+    } else {
+        None
+    }
+}
 
 /// How many bytes stand before the first quote.
 fn count_unquoted(bytes: &[u8]) -> usize
@@ -34,11 +47,12 @@ fn text_length(bytes: &[u8]) -> Result<usize, LineFault>
 }
 
 impl<'a> Reader<'a> {
-    fn int(&mut self) -> Result<i64, LineFault>
-        ensures reads { ReadsWord IsInt self.old self.new result }
+    /// The value that stands without quotes.
+    fn plain_value(&mut self) -> Result<Value, LineFault>
+        ensures reads { ReadsWord IsPlainValue self.old self.new result }
         ensures memory { NeedsNoMemory result }
     {
-        read_int(self.bytes()).ok_or(LineFault::Words)
+        read_plain_value(self.bytes()).ok_or(LineFault::Words)
     }
 
     /// Whether a quote is next, which is then read.
@@ -119,10 +133,10 @@ impl<'a> Reader<'a> {
     {
         self.skip_spaces();
         if self.opens_text() {
-            return self.quoted(alloc);
+            self.quoted(alloc)
+        } else {
+            self.plain_value()
         }
-        let number = self.int()?;
-        Ok(Value::Int(number))
     }
 
     /// The values up to the line's end. Their tuple takes one allocation, where they are no more

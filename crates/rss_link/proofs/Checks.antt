@@ -9,7 +9,8 @@ use Rattle.rss_base.specs.Steps.{no_page}
 use Rattle.rss_base.specs.declared.tid.Tid.{Tid}
 use Rattle.rss_base.proofs.Steps.{rests}
 use Rattle.rss_tuple.specs.Directory.{Bodies, bodies_of}
-use Rattle.rss_tuple.specs.Finding.{IsAfter, IsNext}
+use Rattle.rss_base.specs.Tids.{IsAfter}
+use Rattle.rss_tuple.specs.Finding.{IsNext}
 use Rattle.rss_tuple.specs.Heaps.{AreHeaps}
 use Rattle.rss_tuple.specs.TupleSteps.{TuplesView, IsLive, IsLeast, NoneIs, no_tuple}
 use Rattle.rss_link.specs.declared.link.Chains.{Chains}

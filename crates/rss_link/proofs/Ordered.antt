@@ -6,8 +6,9 @@ use Rattle.rss_base.specs.Paged.{Held, page_key}
 use Rattle.rss_base.specs.declared.key.Space.TheVariants.{Home}
 use Rattle.rss_base.specs.declared.tid.Tid.{Tid}
 use Rattle.rss_tuple.specs.Directory.{Bodies, bodies_of, body_by, overflows}
-use Rattle.rss_tuple.specs.Finding.{IsAfter, IsNext}
-use Rattle.rss_tuple.specs.TupleSteps.{TuplesView, IsLive, IsBelow, IsLeast, NoneIs}
+use Rattle.rss_tuple.specs.Finding.{IsNext}
+use Rattle.rss_base.specs.Tids.{IsBelow, IsAfter}
+use Rattle.rss_tuple.specs.TupleSteps.{TuplesView, IsLive, IsLeast, NoneIs}
 use Rattle.rss_tuple.proofs.Seen.{high_empty}
 use Rattle.rss_link.specs.Blocks.{IsNamed}
 use Rattle.rss_link.specs.Checking.{begins_with}

@@ -3,7 +3,7 @@
 ghost use Rattle.std.specs.Prelude.{◌≡◌, IfSome};
 ghost use Rattle.rss_base.specs.Paged.{page_key};
 ghost use Rattle.rss_base.specs.declared.key.Space.TheVariants.{Home};
-ghost use Rattle.rss_tuple.specs.Finding.{IsAfter};
+ghost use Rattle.rss_base.specs.Tids.{IsAfter};
 ghost use Rattle.rss_link_rows.specs.Silent.{untold};
 
 use rss_base::{Body, PAGE_ENTRIES, PageFault, PageKey, Place, Space, Tid};

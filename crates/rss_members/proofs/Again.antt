@@ -19,10 +19,10 @@ use Rattle.rss_base.specs.declared.value.Value.{Value}
 use Rattle.rss_model.specs.Items.{Content, Values}
 use Rattle.rss_model.specs.Tables.{Tables, content}
 use Rattle.rss_model.specs.Chains.{tuples_in, chain, is_there}
-use Rattle.rss_model.specs.Store.{body_of, Defines, IsListedLink, IsTupleBody, IsTupleItem, IsChainItem, AreEnds, link_definition}
+use Rattle.rss_stored.specs.Store.{body_of, Defines, IsListedLink, IsTupleBody, IsTupleItem, IsChainItem, AreEnds, link_definition}
 use Rattle.rss_model.proofs.LogChanging.{by_item}
 use Rattle.rss_model.proofs.LogLists.{false_true, none_some}
-use Rattle.rss_model.proofs.Spelled.{name_numbered}
+use Rattle.rss_stored.proofs.Spelled.{name_numbered}
 use Rattle.rss_link.specs.Chains.{IsParent, relinked}
 use Rattle.rss_link.specs.Links.{SpellChains, KeepsBody, same, of_child, of_parent, KeepBodies}
 use Rattle.rss_link.specs.Prefixed.{IsPrefixed}

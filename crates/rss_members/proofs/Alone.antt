@@ -1,11 +1,11 @@
 -- Tuples that stand in no chain and have none: their prefixes, and what becomes of links where a tuple comes or goes.
 use Rattle.std.proofs.Common.{◌≡◌, inl, inr, ℕ, zero, suc, ◌-◌, ◌<◌, Bool, true, false, List, [], ◌∷◌, length, get_or, Option, Some, None, refl, sym, ◌∙◌, ap, subst, arith}
-use Rattle.std.specs.Prelude.{◌≢◌, ◌==◌, ◌&&◌, ◌||◌, is_some, IfSome, option_map, flat_map, replicate}
+use Rattle.std.specs.Prelude.{if◌then◌else◌, ◌≢◌, ◌==◌, ◌&&◌, ◌||◌, is_some, IfSome, option_map, flat_map, replicate}
 use Rattle.std.specs.FinMap as map
 use Rattle.std.proofs.lemmas.Bool.{cases_eq, cond-true, cond-false, eq-eqb, ne_eqb}
 use Rattle.std.proofs.lemmas.Option.{none-some}
 use Rattle.rss_base.specs.Listings.{Listing, IsSpelled, relation_at, link_at, is_parent_in}
-use Rattle.rss_base.specs.Prefixes.{Neighbours, ChildPlace, Part, Outside, Member, Child, Parent, is_tid, first_of, neighbours_from, neighbours_in, neighbours_bytes, lower_part, part_in, ends_of, member_block, child_block, parent_block}
+use Rattle.rss_base.specs.Prefixes.{Neighbours, ChildPlace, Part, Outside, Member, Child, Parent, is_tid, first_of, neighbours_from, neighbours_in, neighbours_bytes, lower_part, part_in, early_part, ends_of, member_block, child_block, parent_block}
 use Rattle.rss_base.specs.declared.name.Name.{Name}
 use Rattle.rss_base.specs.declared.tid.Tid.{Tid}
 use Rattle.rss_base.specs.declared.value.Value.{Value}
@@ -18,18 +18,18 @@ use Rattle.rss_tuple.specs.Directory.{Bodies}
 use Rattle.rss_model.specs.Items.{Content, Values, is_name, parent_of as parent_in}
 use Rattle.rss_model.specs.Tables.{LinkDef, Contents, Tables, content, put}
 use Rattle.rss_model.specs.Chains.{tuples_in, chain, chain_with, stands_in, is_there, is_this, is_parent_relation, is_connected, connected, HasParent, LinksFit}
-use Rattle.rss_model.specs.Store.{place_of, place_below, block_of, listed_block, prefix_of, IsListedLink, link_definition}
-use Rattle.rss_model.proofs.Blocks.{parent_says, first_is}
+use Rattle.rss_stored.specs.Store.{place_of, place_below, block_of, listed_block, prefix_of, IsListedLink, link_definition}
+use Rattle.rss_stored.proofs.Blocks.{parent_says, first_is}
 use Rattle.rss_model.proofs.ChainKeeping.{chain_found}
 use Rattle.rss_model.proofs.ChangeKeeping.{in_no_chain}
-use Rattle.rss_model.proofs.Listed.{at_place}
+use Rattle.rss_stored.proofs.Listed.{at_place}
 use Rattle.rss_model.proofs.LogChanging.{put_other}
 use Rattle.rss_model.proofs.LogLists.{by_test, false_true, none_some}
 use Rattle.rss_model.proofs.Mixing.{In}
-use Rattle.rss_model.proofs.Places.{place_parts}
+use Rattle.rss_stored.proofs.Places.{place_parts}
 use Rattle.rss_model.proofs.Refitting.{Unlinked, links_put}
 use Rattle.rss_model.proofs.SeenAlike.{chain_same}
-use Rattle.rss_model.proofs.Spelled.{front_parts}
+use Rattle.rss_stored.proofs.Spelled.{front_parts}
 use Rattle.rss_model.proofs.Standing.{tid_itself, tid_apart, or_none, stands_of}
 use Rattle.rss_model.proofs.Viewing.{stands}
 use Rattle.rss_members.specs.Members.{SpellsMembers, IsAlone, blank_block, blank_listed, blank_prefix}
@@ -37,7 +37,7 @@ use Rattle.rss_members.proofs.Prefixed.{long_listed, long_blank_listed}
 use Rattle.rss_members.proofs.Chained.{full, has_parent, some_neighbours}
 use Rattle.rss_members.proofs.Defined.{find_none, name_same, child_listed, link_numbered, numbered_in, its_child, is_its_child, its_parent, is_its_parent}
 use Rattle.rss_members.proofs.Rewritten.{flat_alike}
-use Rattle.rss_members.proofs.Spelled.{kind}
+use Rattle.rss_members.proofs.Spelled.{kind, part_of_early}
 
 -- ---- lists
 
@@ -122,9 +122,9 @@ module _ (contents : Contents) (number : ℕ) (tid : Tid) (link : LinkEntry) whe
   abbrev block : Part → List ℕ
   block part = block_of contents link.name tid part
 
-  block_blank : (link.child ≡ number → (parent : Option Tid) → stands_in tid (chain contents link.name parent) ≡ false) → (link.parent ≡ Some number → chain contents link.name (Some tid) ≡ [])
+  part_blank : (link.child ≡ number → (parent : Option Tid) → stands_in tid (chain contents link.name parent) ≡ false) → (link.parent ≡ Some number → chain contents link.name (Some tid) ≡ [])
       → block (part_in link number) ≡ blank_block (part_in link number)
-  block_blank child parent = elim (cases_eq link.child number) [
+  part_blank child parent = elim (cases_eq link.child number) [
     | inl here ↦ subst (λ (part : Part). block part ≡ blank_block part) (sym (part_child link number here)) (lower link.parent (child here))
     | inr off ↦ let other : (link.child == number) ≡ false = search (arith, off) in by_test (is_parent_in link.parent number)
         (λ e. let above = parent_of link.parent number e in
@@ -135,6 +135,15 @@ module _ (contents : Contents) (number : ℕ) (tid : Tid) (link : LinkEntry) whe
       lower : (above : Option ℕ) → ((parent : Option Tid) → stands_in tid (chain contents link.name parent) ≡ false) → block (lower_part above) ≡ blank_block (lower_part above)
       lower None off = ap member_block (no_neighbours tid None (chain contents link.name None) (off None))
       lower (Some p) off = ap (λ (o : Option Item). child_block (place_of contents tid o)) (none_with contents link.name tid off)
+
+  -- and so is the block in the prefix, where a late link has none
+  block_blank : (link.child ≡ number → (parent : Option Tid) → stands_in tid (chain contents link.name parent) ≡ false) → (link.parent ≡ Some number → chain contents link.name (Some tid) ≡ [])
+      → block (early_part link number) ≡ blank_block (early_part link number)
+  block_blank child parent = either link.late (part_in link number) (part_blank child parent)
+    where
+      either : (late : Bool) (part : Part) → block part ≡ blank_block part → block (if late then Outside else part) ≡ blank_block (if late then Outside else part)
+      either true part is = refl
+      either false part is = is
 
 -- ---- the prefix of such a tuple
 
@@ -226,13 +235,13 @@ module _ {listing : Listing} {bodies : Bodies} {tables : Tables} (spells : Spell
   prefix_alone same = record {
     child = λ k link at is.
         let of = child_listed spells k link at in
-        says_below k link of.0 of.1 link.parent refl (subst (λ (part : Part). block_of tables.contents link.name tid part ≡ blank_block part) (part_child link number is) (here k link at));
+        says_below k link of.0 of.1 link.parent refl (subst (λ (part : Part). block_of tables.contents link.name tid part ≡ blank_block part) (part_of_early link number _ (spells.listed.paths.links k link at).early (part_child link number is)) (here k link at));
     parent = λ k link at is.
         let of = child_listed spells k link at in
-        says_above k link of.0 of.1 (subst (λ (part : Part). block_of tables.contents link.name tid part ≡ blank_block part) (part_parent link number (other k link at is) is) (here k link at));
+        says_above k link of.0 of.1 (subst (λ (part : Part). block_of tables.contents link.name tid part ≡ blank_block part) (part_of_early link number _ (spells.listed.paths.links k link at).early (part_parent link number (other k link at is) is)) (here k link at));
   }
     where
-      here : (k : ℕ) (link : LinkEntry) → link_at listing k ≡ Some link → block_of tables.contents link.name tid (part_in link number) ≡ blank_block (part_in link number)
+      here : (k : ℕ) (link : LinkEntry) → link_at listing k ≡ Some link → block_of tables.contents link.name tid (early_part link number) ≡ blank_block (early_part link number)
       here k link at =
           let bounds = numbered_within listing.links k link at in
           subst (λ (o : Option LinkEntry). listed_block tables.contents number tid o ≡ blank_listed number o) (place_has listing.links k link at)

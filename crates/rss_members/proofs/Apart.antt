@@ -5,14 +5,14 @@ use Rattle.std.proofs.lemmas.Bool.{cases_lt}
 use Rattle.std.proofs.lemmas.List.{take-take, length-take, get_or-take}
 use Rattle.std.proofs.lemmas.List.Sums.{sum_by_more_le}
 use Rattle.rss_base.specs.Listings.{Listing, numbered, relation_at, link_at}
-use Rattle.rss_base.specs.Prefixes.{part_in, lower_part, block_size, listed_block_size, prefix_size}
+use Rattle.rss_base.specs.Prefixes.{early_part, lower_part, block_size, listed_block_size, prefix_size}
 use Rattle.rss_base.specs.declared.tid.Tid.{Tid}
 use Rattle.rss_base.specs.declared.relation.RelationEntry.{RelationEntry}
 use Rattle.rss_base.specs.declared.link.LinkEntry.{LinkEntry}
 use Rattle.rss_catalog.proofs.Numbered.{numbered_at, numbered_within}
 use Rattle.rss_tuple.specs.Directory.{Bodies}
 use Rattle.rss_model.specs.Tables.{Tables}
-use Rattle.rss_model.specs.Store.{link_definition}
+use Rattle.rss_stored.specs.Store.{link_definition}
 use Rattle.rss_link.specs.Blocks.{child_size}
 use Rattle.rss_link.specs.Links.{HasBlock, as_child, as_parent, AreDisjoint}
 use Rattle.rss_members.specs.Members.{block_at, segment_of, of_parents, chains_of, linkage_of, SpellsMembers}
@@ -21,7 +21,7 @@ use Rattle.rss_members.proofs.Spelled.{part_of_child, part_of_parent, HasBody, b
 -- ---- blocks in one body
 
 lesser_first : (items : List (Option LinkEntry)) (relation one other : ℕ) (link : LinkEntry) → numbered items one ≡ Some link → one < other
-    → prefix_size (take (one - 1) items) relation + block_size (part_in link relation) ≤ prefix_size (take (other - 1) items) relation
+    → prefix_size (take (one - 1) items) relation + block_size (early_part link relation) ≤ prefix_size (take (other - 1) items) relation
 lesser_first items relation one other link at less =
     let bounds = numbered_within items one link at in
     let low : 1 ≤ one = bounds.0 in
@@ -31,7 +31,7 @@ lesser_first items relation one other link at less =
     let front : take (one - 1) rest ≡ take (one - 1) items = take-take (one - 1) (other - 1) items (omega (arith, less)) in
     let sum : sum_by (listed_block_size relation) (take (one - 1) rest) + listed_block_size relation (get_or rest (one - 1) None) ≤ sum_by (listed_block_size relation) rest =
     sum_by_more_le (listed_block_size relation) rest (one - 1) None (omega (arith, length-take (other - 1) items, low, high, less)) in
-    subst (λ (l : List (Option LinkEntry)). prefix_size l relation + block_size (part_in link relation) ≤ prefix_size rest relation) front
+    subst (λ (l : List (Option LinkEntry)). prefix_size l relation + block_size (early_part link relation) ≤ prefix_size rest relation) front
     (subst (λ (o : Option LinkEntry). sum_by (listed_block_size relation) (take (one - 1) rest) + listed_block_size relation o ≤ sum_by (listed_block_size relation) rest) here sum)
 
 pub size_of_child : (parent : Option ℕ) → child_size (not (is_some parent)) ≡ block_size (lower_part parent)
@@ -47,7 +47,7 @@ module _ {listing : Listing} {bodies : Bodies} {tables : Tables} (spells : Spell
     within : segment ≡ segment_of listing relation
     has : HasBody spells relation tid
     place : at ≡ block_at listing number relation
-    long : size ≡ block_size (part_in link relation)
+    long : size ≡ block_size (early_part link relation)
 
   module _ (number : ℕ) (link : LinkEntry) (at : link_at listing number ≡ Some link) (child : RelationEntry) (child_at : relation_at listing link.child ≡ Some child) where
     is_block : (segment : ℕ) (tid : Tid) (from size : ℕ) → HasBlock (chains_of listing number link) (linkage_of tables.contents link.name (link_definition listing link child)) segment tid from size → IsBlock number link segment tid from size
@@ -56,7 +56,7 @@ module _ {listing : Listing} {bodies : Bodies} {tables : Tables} (spells : Spell
       within = here;
       has = body_there spells link.child child tid child_at is;
       place = place;
-      long = long ∙ size_of_child link.parent ∙ sym (ap block_size (part_of_child link));
+      long = long ∙ size_of_child link.parent ∙ sym (ap block_size (part_of_child link (spells.listed.paths.links number link at).early));
     }
     is_block segment tid from size (as_parent kind here is place long) =
         let above = above_listed spells number link at kind in record {
@@ -64,7 +64,7 @@ module _ {listing : Listing} {bodies : Bodies} {tables : Tables} (spells : Spell
           within = here ∙ ap (of_parents (segment_of listing)) above.is;
           has = body_there spells above.number above.relation tid above.at (is_above spells number link at child child_at above tid is);
           place = place ∙ ap (of_parents (block_at listing number)) above.is;
-          long = long ∙ sym (ap block_size (part_of_parent link above.number above.is above.other));
+          long = long ∙ sym (ap block_size (part_of_parent link (spells.listed.paths.links number link at).early above.number above.is above.other));
         }
 
   lesser_apart : (one other : ℕ) (link link_too : LinkEntry) → link_at listing one ≡ Some link → one < other → (segment : ℕ) (tid : Tid) (at size from count : ℕ)

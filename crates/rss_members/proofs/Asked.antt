@@ -14,7 +14,7 @@ use Rattle.rss_base.specs.declared.link.LinkEntry.{LinkEntry}
 use Rattle.rss_tuple.specs.Finding.{IsFetched}
 use Rattle.rss_model.specs.Tables.{Contents, Tables}
 use Rattle.rss_model.specs.Chains.{chain, chain_with, stands_in, is_there, HasParent, LinksFit}
-use Rattle.rss_model.specs.Store.{body_of, IsListedLink, link_definition}
+use Rattle.rss_stored.specs.Store.{body_of, IsListedLink, link_definition}
 use Rattle.rss_model.proofs.ChainKeeping.{chain_found}
 use Rattle.rss_model.proofs.ChangeKeeping.{in_no_chain}
 use Rattle.rss_model.proofs.LogLists.{by_test, false_true, none_some}

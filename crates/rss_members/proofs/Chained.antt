@@ -11,7 +11,7 @@ use Rattle.rss_base.specs.declared.item.Item.TheVariants.{Chain as ChainItem}
 use Rattle.rss_model.specs.Items.{Content}
 use Rattle.rss_model.specs.Tables.{LinkDef, Contents, Tables, content}
 use Rattle.rss_model.specs.Chains.{tuples_in, chain, chain_with, stands_in, is_there, HasParent, StandOnce, LinksFit}
-use Rattle.rss_model.specs.Store.{place_of, block_of}
+use Rattle.rss_stored.specs.Store.{place_of, block_of}
 use Rattle.rss_model.proofs.ChainKeeping.{chain_found}
 use Rattle.rss_model.proofs.ChangeKeeping.{in_no_chain}
 use Rattle.rss_model.proofs.LogLists.{by_test, false_true}

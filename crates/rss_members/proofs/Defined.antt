@@ -13,13 +13,13 @@ use Rattle.rss_catalog.proofs.Numbered.{numbered_map}
 use Rattle.rss_tuple.specs.Directory.{Bodies}
 use Rattle.rss_model.specs.Items.{name_cmp, is_name}
 use Rattle.rss_model.specs.Tables.{LinkDef, Tables}
-use Rattle.rss_model.specs.Store.{IsListedLink, relation_name, link_definition}
+use Rattle.rss_stored.specs.Store.{IsListedLink, relation_name, link_definition}
 use Rattle.rss_model.proofs.Codes.{name_total, name_apart}
 use Rattle.rss_model.proofs.Contents.{tied}
 use Rattle.rss_model.proofs.Locking.{in_entries}
 use Rattle.rss_model.proofs.LogLists.{none_some, some_of}
 use Rattle.rss_model.proofs.Mixing.{In}
-use Rattle.rss_model.proofs.Relisted.{number_of}
+use Rattle.rss_stored.proofs.Relisted.{number_of}
 use Rattle.rss_model.proofs.SeenAlike.{got_in}
 use Rattle.rss_members.specs.Members.{SpellsMembers}
 

@@ -14,7 +14,7 @@ use Rattle.rss_base.proofs.Equal.{same_tid, tid_decides}
 use Rattle.rss_tuple.specs.Directory.{Bodies}
 use Rattle.rss_model.specs.Tables.{LinkDef, Tables}
 use Rattle.rss_model.specs.Chains.{chain, chain_with, stands_in, with_behind, without, next_of, is_there, HasParent, StandOnce}
-use Rattle.rss_model.specs.Store.{IsListedLink, link_definition}
+use Rattle.rss_stored.specs.Store.{IsListedLink, link_definition}
 use Rattle.rss_model.proofs.ChainKeeping.{chain_found}
 use Rattle.rss_model.proofs.ChangeKeeping.{in_no_chain}
 use Rattle.rss_model.proofs.LogLists.{by_test, false_true, none_some, some_of}

@@ -18,7 +18,7 @@ use Rattle.rss_model.specs.Items.{Content, Values}
 use Rattle.rss_model.specs.Tables.{LinkDef, Contents, Tables, content}
 use Rattle.rss_model.specs.Chains.{chain, is_there}
 use Rattle.rss_model.specs.Fits.{IsTupleOf}
-use Rattle.rss_model.specs.Store.{Defines, IsListedLink, prefix_of, relation_name, link_definition}
+use Rattle.rss_stored.specs.Store.{fields_at, Defines, IsListedLink, prefix_of, relation_name, link_definition}
 use Rattle.rss_model.proofs.LogLists.{some_of}
 use Rattle.rss_link.specs.declared.link.Relations.{Relations}
 use Rattle.rss_link.specs.Calls.{seen_with}
@@ -36,7 +36,7 @@ use Rattle.rss_members.proofs.Spelled.{spells_chains}
 pub record HoldsValues (listing : Listing) (number : ℕ) (values : List Value) (body : List ℕ) : Type 0 where
   pub prefix : List ℕ
   pub long : length prefix ≡ prefix_size listing.links number
-  pub is : body ≡ number ∷ (prefix ++ tuple_bytes values)
+  pub is : body ≡ number ∷ (prefix ++ tuple_bytes (fields_at listing number) values)
 
 -- the tuple's body holds its values
 pub record StandsIn (listing : Listing) (bodies : Bodies) (segment : ℕ) (tid : Tid) (number : ℕ) (values : List Value) : Type 0 where
@@ -72,7 +72,7 @@ tuples_spelled {listing = listing} {bodies = bodies} {tables = tables} spells = 
   listed = spells.listed;
   defines = spells.defines;
   stands = λ number relation tid values at is. record {
-    body = number ∷ (prefix_of listing tables.contents number tid ++ tuple_bytes values);
+    body = number ∷ (prefix_of listing tables.contents number tid ++ tuple_bytes (fields_at listing number) values);
     there = spells.contents.stands number relation tid values at is;
     holds = record { prefix = prefix_of listing tables.contents number tid; long = long_prefix tables.contents number tid listing.links; is = refl };
   };
@@ -131,7 +131,7 @@ module _ {listing : Listing} {bodies : Bodies} {tables : Tables} (spells : Spell
       to (Some []) is begins = absurd (cc (begins))
       to (Some (first ∷ rest)) is begins =
           let of = spells.bodies_are (segment_of listing number) tid (first ∷ rest) is in
-          let whole : first ∷ rest ≡ of.number ∷ (of.is.prefix ++ tuple_bytes of.values) = of.is.is in
+          let whole : first ∷ rest ≡ of.number ∷ (of.is.prefix ++ tuple_bytes (fields_at listing of.number) of.values) = of.is.is in
           let head : first ≡ of.number = cc in
           let same : of.relation ≡ relation = same_entry of.number number of.relation relation of.at at (sym head ∙ eqb-true first number begins) in
           ap is_some (ap (λ (r : RelationEntry). content tables.contents (TupleItem r.name tid)) (sym same) ∙ of.holds)

@@ -1,12 +1,12 @@
 -- The tables that bodies spell are gathered: those of the tuples that the bodies are, with the chains that are found of each listed link.
 use Rattle.std.proofs.Common.{◌≡◌, ◌⊎◌, inl, inr, ⊎_elim, ℕ, suc, ◌+◌, ◌-◌, ◌<◌, ◌≤◌, Bool, true, false, List, [], ◌∷◌, ◌++◌, length, get_or, take, drop, Option, Some, None, refl, sym, ◌∙◌, ap, subst, arith}
-use Rattle.std.specs.Prelude.{◌≢◌, ◌==◌, not, is_some, IfSome, flat_map, map as list_map, option_map, option_and_then}
+use Rattle.std.specs.Prelude.{◌≢◌, not, is_some, IfSome, flat_map, map as list_map, option_map, option_and_then}
 use Rattle.std.specs.FinMap as map
-use Rattle.std.proofs.lemmas.Bool.{cases_eq, cond-false}
+use Rattle.std.proofs.lemmas.Bool.{cases_eq}
 use Rattle.std.proofs.lemmas.Option.{same_Some}
 use Rattle.std.proofs.lemmas.List.Sums.{sum_by_more_le}
-use Rattle.rss_base.specs.Listings.{Listing, relation_at, link_at, is_parent_in}
-use Rattle.rss_base.specs.Prefixes.{Ends, Part, Outside, Parent, part_in, lower_part, block_size, listed_block_size, prefix_size, first_of, last_of, ends_of, parent_block}
+use Rattle.rss_base.specs.Listings.{Listing, relation_at, link_at}
+use Rattle.rss_base.specs.Prefixes.{Ends, Part, early_part, lower_part, block_size, listed_block_size, prefix_size, first_of, last_of, ends_of, parent_block}
 use Rattle.rss_base.specs.TupleTypes.{tuple_bytes}
 use Rattle.rss_base.specs.declared.name.Name.{Name}
 use Rattle.rss_base.specs.declared.tid.Tid.{Tid}
@@ -20,14 +20,14 @@ use Rattle.rss_tuple.specs.TupleSteps.{TuplesView}
 use Rattle.rss_model.specs.Items.{Content}
 use Rattle.rss_model.specs.Tables.{LinkDef, Contents, Tables, content, put}
 use Rattle.rss_model.specs.Chains.{tuples_in, chain_content, chain, stands_in, is_there, HasParent, LinksFit}
-use Rattle.rss_model.specs.Store.{SpellsContents, IsListedLink, IsTupleItem, IsChainItem, block_of, listed_block, body_of, relation_name, link_definition}
+use Rattle.rss_stored.specs.Store.{fields_at, SpellsContents, IsListedLink, IsTupleItem, IsChainItem, block_of, listed_block, body_of, relation_name, link_definition}
 use Rattle.rss_model.proofs.Codes.{item_apart, name_apart}
-use Rattle.rss_model.proofs.Listed.{at_place}
+use Rattle.rss_stored.proofs.Listed.{at_place}
 use Rattle.rss_model.proofs.Locking.{in_entries, in_keys}
 use Rattle.rss_model.proofs.LogChanging.{by_item, put_here, put_other}
 use Rattle.rss_model.proofs.LogLists.{some_of, none_some}
 use Rattle.rss_model.proofs.Mixing.{In, all_of}
-use Rattle.rss_model.proofs.Spelled.{name_numbered, named_link, listed_link}
+use Rattle.rss_stored.proofs.Spelled.{name_numbered, named_link, listed_link}
 use Rattle.rss_model.proofs.Standing.{stands_of, tuples_of, content_of}
 use Rattle.rss_model.proofs.Testing.{in_flat}
 use Rattle.rss_link.specs.Blocks.{HasBytes}
@@ -41,7 +41,7 @@ use Rattle.rss_members.specs.Members.{block_at, segment_in, segment_of, of_paren
 use Rattle.rss_members.proofs.Prefixed.{long_block}
 use Rattle.rss_members.proofs.Chained.{lower_block, full}
 use Rattle.rss_members.proofs.Linked.{one_lower_block}
-use Rattle.rss_members.proofs.Spelled.{eqb_off, part_of_child, part_of_parent}
+use Rattle.rss_members.proofs.Spelled.{part_of_child, part_of_parent, part_outside}
 use Rattle.rss_members.proofs.Gathered.{HoldsValues, SpellsTuples, relations_of, linked, linked_read, linkage_same}
 use Rattle.rss_members.proofs.GatheredBytes.{prefix_is, within_prefix}
 
@@ -60,15 +60,6 @@ none_stands (x ∷ tids) off = absurd (off x (stands_of (x ∷ tids) x (inl refl
 some_stands : (tids : List Tid) → 1 ≤ length tids → (x : Tid) × (stands_in x tids ≡ true)
 some_stands [] some = absurd (omega (arith, some))
 some_stands (x ∷ tids) some = (x, stands_of (x ∷ tids) x (inl refl))
-
-no_part : (link : LinkEntry) (relation : ℕ) → (relation ≡ link.child → ⊥) → (link.parent ≡ Some relation → ⊥) → part_in link relation ≡ Outside
-no_part link relation off off_above =
-    cond-false (link.child == relation) (lower_part link.parent) _ (eqb_off link.child relation (λ e. off (sym e)))
-    ∙ cond-false (is_parent_in link.parent relation) Parent Outside (by link.parent refl)
-  where
-    by : (above : Option ℕ) → link.parent ≡ above → is_parent_in link.parent relation ≡ false
-    by None is = ap (λ (o : Option ℕ). is_parent_in o relation) is
-    by (Some p) is = ap (λ (o : Option ℕ). is_parent_in o relation) is ∙ eqb_off p relation (λ e. off_above (is ∙ ap (λ (r : ℕ). Some r) e))
 
 -- a link has a parent where its definition has one
 same_kind : (listing : Listing) (child : ℕ) (above : Option ℕ) → IfSome above (λ n. (is_some (relation_at listing n) ≡ true) × (n ≢ child)) → is_some (option_and_then (relation_name listing) above) ≡ is_some above
@@ -275,53 +266,53 @@ module _ {listing : Listing} {bodies : Bodies} {tables : Tables} (spells : Spell
     lists_now = λ i parent. chain_is link.name parent i
 
     -- of a child
-    child_bytes : (tid : Tid) (bytes : List ℕ) → IsLowerBlock (not (is_some link.parent)) (lists link.name) tid bytes → bytes ≡ block_of now link.name tid (part_in link link.child)
+    child_bytes : (tid : Tid) (bytes : List ℕ) → IsLowerBlock (not (is_some link.parent)) (lists link.name) tid bytes → bytes ≡ block_of now link.name tid (early_part link link.child)
     child_bytes tid bytes lower =
         one_lower_block (lists link.name) tid (λ p q. blocks.lists.alone p q tid) (not (is_some link.parent)) bytes (block_of now link.name tid (lower_part link.parent)) lower
         (subst (λ (l : Lists). IsLowerBlock (not (is_some link.parent)) l tid (block_of now link.name tid (lower_part link.parent))) lists_now
         (lower_block links_now link.name definition (spells.defines.paths.links k link child is) link.parent (sym (kind k link child is)) tid))
-        ∙ ap (block_of now link.name tid) (sym (part_of_child link))
+        ∙ ap (block_of now link.name tid) (sym (part_of_child link (spells.listed.paths.links k link is.at).early))
 
     of_child : (tid : Tid) (body : List ℕ) → is_there tables.contents child.name tid ≡ true → bodies (segment_of listing link.child) tid ≡ Some body
-        → HasBytes body (block_at listing k link.child) (block_of now link.name tid (part_in link link.child))
+        → HasBytes body (block_at listing k link.child) (block_of now link.name tid (early_part link link.child))
     of_child tid body stands there =
         let lower = blocks.blocks.children tid stands in
         let same : lower.has.body ≡ body = same_Some _ _ (sym lower.has.there ∙ there) in
-        subst (λ (b : List ℕ). HasBytes b (block_at listing k link.child) (block_of now link.name tid (part_in link link.child))) same
+        subst (λ (b : List ℕ). HasBytes b (block_at listing k link.child) (block_of now link.name tid (early_part link link.child))) same
         (subst (HasBytes lower.has.body (block_at listing k link.child)) (child_bytes tid lower.bytes lower.is) lower.has.has)
 
     -- of a parent
     of_parent : (number : ℕ) (entry : RelationEntry) (tid : Tid) (body : List ℕ) → link.parent ≡ Some number → relation_at listing number ≡ Some entry → (number ≡ link.child → ⊥)
         → is_there tables.contents entry.name tid ≡ true → bodies (segment_of listing number) tid ≡ Some body
-        → HasBytes body (block_at listing k number) (block_of now link.name tid (part_in link number))
+        → HasBytes body (block_at listing k number) (block_of now link.name tid (early_part link number))
     of_parent number entry tid body above at off stands there =
         let named : definition.parent ≡ Some entry.name = ap (option_and_then (relation_name listing)) above ∙ ap (option_map (λ (r : RelationEntry). r.name)) at in
         let upper = blocks.blocks.parents tid (ap (λ (o : Option ℕ). not (is_some o)) above) (subst (λ (o : Option Name). is_parent tables.contents o tid ≡ true) (sym named) stands) in
         let has = subst (λ (o : Option ℕ). BodyHas bodies (of_parents (segment_of listing) o) tid (of_parents (block_at listing k) o) (parent_block (ends_of (lists link.name (Some tid))))) above upper in
         let same : has.body ≡ body = same_Some _ _ (sym has.there ∙ there) in
-        let block : parent_block (ends_of (lists link.name (Some tid))) ≡ block_of now link.name tid (part_in link number) =
-        ap (λ (l : List Tid). parent_block (ends_of l)) (sym (chain_is link.name (Some tid))) ∙ ap (block_of now link.name tid) (sym (part_of_parent link number above off)) in
-        subst (λ (b : List ℕ). HasBytes b (block_at listing k number) (block_of now link.name tid (part_in link number))) same
+        let block : parent_block (ends_of (lists link.name (Some tid))) ≡ block_of now link.name tid (early_part link number) =
+        ap (λ (l : List Tid). parent_block (ends_of l)) (sym (chain_is link.name (Some tid))) ∙ ap (block_of now link.name tid) (sym (part_of_parent link (spells.listed.paths.links k link is.at).early number above off)) in
+        subst (λ (b : List ℕ). HasBytes b (block_at listing k number) (block_of now link.name tid (early_part link number))) same
         (subst (HasBytes has.body (block_at listing k number)) block has.has)
 
     -- of each relation
     block_there : (number : ℕ) (entry : RelationEntry) (tid : Tid) (body : List ℕ) → relation_at listing number ≡ Some entry → is_there tables.contents entry.name tid ≡ true → bodies (segment_of listing number) tid ≡ Some body
-        → HasBytes body (block_at listing k number) (block_of now link.name tid (part_in link number))
+        → HasBytes body (block_at listing k number) (block_of now link.name tid (early_part link number))
     block_there number entry tid body at stands there = elim (cases_eq number link.child) [
       | inl here ↦ child_by number here entry at stands there
       | inr off ↦ by link.parent refl off
     ]
       where
         child_by : (n : ℕ) → n ≡ link.child → (e : RelationEntry) → relation_at listing n ≡ Some e → is_there tables.contents e.name tid ≡ true → bodies (segment_of listing n) tid ≡ Some body
-            → HasBytes body (block_at listing k n) (block_of now link.name tid (part_in link n))
+            → HasBytes body (block_at listing k n) (block_of now link.name tid (early_part link n))
         child_by n here = subst (λ (m : ℕ). (e : RelationEntry) → relation_at listing m ≡ Some e → is_there tables.contents e.name tid ≡ true → bodies (segment_of listing m) tid ≡ Some body
-            → HasBytes body (block_at listing k m) (block_of now link.name tid (part_in link m))) (sym here)
+            → HasBytes body (block_at listing k m) (block_of now link.name tid (early_part link m))) (sym here)
             (λ e e_at stands there. of_child tid body (subst (λ (r : RelationEntry). is_there tables.contents r.name tid ≡ true) (same_Some _ _ (sym e_at ∙ is.within)) stands) there)
 
-        none_there : (link.parent ≡ Some number → ⊥) → (number ≡ link.child → ⊥) → HasBytes body (block_at listing k number) (block_of now link.name tid (part_in link number))
-        none_there off_above off = subst (λ (part : Part). HasBytes body (block_at listing k number) (block_of now link.name tid part)) (sym (no_part link number off off_above)) refl
+        none_there : (link.parent ≡ Some number → ⊥) → (number ≡ link.child → ⊥) → HasBytes body (block_at listing k number) (block_of now link.name tid (early_part link number))
+        none_there off_above off = subst (λ (part : Part). HasBytes body (block_at listing k number) (block_of now link.name tid part)) (sym (part_outside link number off off_above)) refl
 
-        by : (above : Option ℕ) → link.parent ≡ above → (number ≡ link.child → ⊥) → HasBytes body (block_at listing k number) (block_of now link.name tid (part_in link number))
+        by : (above : Option ℕ) → link.parent ≡ above → (number ≡ link.child → ⊥) → HasBytes body (block_at listing k number) (block_of now link.name tid (early_part link number))
         by None above_is off = none_there (λ e. none_some (sym above_is ∙ e)) off
         by (Some p) above_is off = elim (cases_eq number p) [
           | inl here ↦ of_parent number entry tid body (above_is ∙ ap (λ (r : ℕ). Some r) (sym here)) at off stands there
@@ -333,7 +324,7 @@ module _ {listing : Listing} {bodies : Bodies} {tables : Tables} (spells : Spell
   body_now : (number : ℕ) (entry : RelationEntry) (tid : Tid) (values : List Value) (body : List ℕ) → relation_at listing number ≡ Some entry → is_there tables.contents entry.name tid ≡ true
       → bodies (segment_of listing number) tid ≡ Some body → HoldsValues listing number values body → body ≡ body_of listing now number tid values
   body_now number entry tid values body at stands there holds =
-      holds.is ∙ ap (λ (l : List ℕ). number ∷ (l ++ tuple_bytes values)) (prefix_is (listed_block now number tid) (listed_block_size number) None listing.links holds.prefix holds.long (λ k low. each k low (get_or listing.links k None) refl))
+      holds.is ∙ ap (λ (l : List ℕ). number ∷ (l ++ tuple_bytes (fields_at listing number) values)) (prefix_is (listed_block now number tid) (listed_block_size number) None listing.links holds.prefix holds.long (λ k low. each k low (get_or listing.links k None) refl))
     where
       each : (k : ℕ) → k < length listing.links → (found : Option LinkEntry) → get_or listing.links k None ≡ found
           → take (listed_block_size number found) (drop (prefix_size (take k listing.links) number) holds.prefix) ≡ listed_block now number tid found
@@ -343,12 +334,12 @@ module _ {listing : Listing} {bodies : Bodies} {tables : Tables} (spells : Spell
           let so = listed_link spells.listed (suc k) link at_k in
           let less : suc k - 1 ≡ k = omega arith in
           let has = block_there (suc k) link so.0 so.1 number entry tid body at stands there in
-          let room : prefix_size (take k listing.links) number + block_size (part_in link number) ≤ length holds.prefix =
+          let room : prefix_size (take k listing.links) number + block_size (early_part link number) ≤ length holds.prefix =
           omega (arith, holds.long, sum_by_more_le (listed_block_size number) listing.links k None low, ap (listed_block_size number) is) in
-          within_prefix number holds.prefix (tuple_bytes values) (block_of now link.name tid (part_in link number)) (prefix_size (take k listing.links) number) (block_size (part_in link number))
-          (subst (λ (n : ℕ). HasBytes (number ∷ (holds.prefix ++ tuple_bytes values)) (1 + prefix_size (take n listing.links) number) (block_of now link.name tid (part_in link number))) less
-          (subst (λ (b : List ℕ). HasBytes b (block_at listing (suc k) number) (block_of now link.name tid (part_in link number))) holds.is has))
-          (sym (long_block now link.name tid (part_in link number))) room
+          within_prefix number holds.prefix (tuple_bytes (fields_at listing number) values) (block_of now link.name tid (early_part link number)) (prefix_size (take k listing.links) number) (block_size (early_part link number))
+          (subst (λ (n : ℕ). HasBytes (number ∷ (holds.prefix ++ tuple_bytes (fields_at listing number) values)) (1 + prefix_size (take n listing.links) number) (block_of now link.name tid (early_part link number))) less
+          (subst (λ (b : List ℕ). HasBytes b (block_at listing (suc k) number) (block_of now link.name tid (early_part link number))) holds.is has))
+          (sym (long_block now link.name tid (early_part link number))) room
 
   -- ---- the tables are spelled
 

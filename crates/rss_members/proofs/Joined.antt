@@ -12,8 +12,8 @@ use Rattle.rss_catalog.specs.Catalogs.{CatalogView, with_ends}
 use Rattle.rss_tuple.specs.TupleSteps.{TuplesView}
 use Rattle.rss_model.specs.Tables.{Tables}
 use Rattle.rss_model.specs.Chains.{chain, stands_in, with_behind, without, HasParent}
-use Rattle.rss_model.specs.Store.{IsListedLink, link_definition}
-use Rattle.rss_model.proofs.Blocks.{first_is}
+use Rattle.rss_stored.specs.Store.{IsListedLink, link_definition}
+use Rattle.rss_stored.proofs.Blocks.{first_is}
 use Rattle.rss_model.proofs.LogLists.{by_test, false_true}
 use Rattle.rss_model.proofs.Mixing.{In}
 use Rattle.rss_model.proofs.Standing.{stands_of}

@@ -24,7 +24,7 @@ use Rattle.rss_tuple.specs.TupleSteps.{TuplesView, Tuples, no_tuple}
 use Rattle.rss_model.specs.Items.{Content, name_cmp, is_name}
 use Rattle.rss_model.specs.Tables.{LinkDef, Tables, content}
 use Rattle.rss_model.specs.Chains.{tuples_in, chain, chain_with, is_this, is_parent_relation, is_connected, connected, LinksFit}
-use Rattle.rss_model.specs.Store.{IsListedLink, link_definition}
+use Rattle.rss_stored.specs.Store.{IsListedLink, link_definition}
 use Rattle.rss_model.proofs.Codes.{name_total, name_apart}
 use Rattle.rss_model.proofs.ImageLists.{T_parts}
 use Rattle.rss_model.proofs.Locking.{none_of, find_in}

@@ -12,7 +12,7 @@ use Rattle.rss_base.specs.declared.item.Item.TheVariants.{Tuple as TupleItem, Ch
 use Rattle.rss_model.specs.Items.{Content, name_cmp}
 use Rattle.rss_model.specs.Tables.{LinkDef, Tables, content}
 use Rattle.rss_model.specs.Chains.{tuples_in, chain, chain_content, chain_with, stands_in, is_there, HasParent, StandOnce, IsChainOf, LinksFit}
-use Rattle.rss_model.specs.Store.{place_of, block_of}
+use Rattle.rss_stored.specs.Store.{place_of, block_of}
 use Rattle.rss_model.proofs.ChainKeeping.{chain_found}
 use Rattle.rss_model.proofs.Codes.{name_total, name_apart}
 use Rattle.rss_model.proofs.Contents.{tied}

@@ -8,7 +8,7 @@ use Rattle.std.proofs.lemmas.Grind.{flat_map-append}
 use Rattle.std.proofs.Math.Seq.{drop-cons}
 use Rattle.rss_base.specs.LogRecords.{place_bytes, tid_bytes}
 use Rattle.rss_base.specs.Listings.{Listing, numbered, link_at}
-use Rattle.rss_base.specs.Prefixes.{Neighbours, ChildPlace, Part, Outside, Member, Child, Parent, part_in, block_size, listed_block_size, prefix_size, member_block, child_block, ends_of}
+use Rattle.rss_base.specs.Prefixes.{Neighbours, ChildPlace, Part, Outside, Member, Child, Parent, early_part, block_size, listed_block_size, prefix_size, member_block, child_block, ends_of}
 use Rattle.rss_base.specs.TupleTypes.{tuple_bytes}
 use Rattle.rss_base.specs.declared.name.Name.{Name}
 use Rattle.rss_base.specs.declared.tid.Tid.{Tid}
@@ -16,7 +16,7 @@ use Rattle.rss_base.specs.declared.value.Value.{Value}
 use Rattle.rss_base.specs.declared.link.LinkEntry.{LinkEntry}
 use Rattle.rss_catalog.proofs.Numbered.{numbered_at, numbered_within}
 use Rattle.rss_model.specs.Tables.{Contents}
-use Rattle.rss_model.specs.Store.{block_of, listed_block, body_of}
+use Rattle.rss_stored.specs.Store.{fields_at, block_of, listed_block, body_of}
 use Rattle.rss_link.specs.Blocks.{HasBytes}
 use Rattle.rss_link.proofs.Pointers.{long_pointer}
 use Rattle.rss_link.proofs.BlockBytes.{length-parent_block}
@@ -40,7 +40,7 @@ long_block contents link tid Parent = length-parent_block _
 
 pub long_listed : (contents : Contents) (number : ℕ) (tid : Tid) (item : Option LinkEntry) → length (listed_block contents number tid item) ≡ listed_block_size number item
 long_listed contents number tid None = refl
-long_listed contents number tid (Some link) = long_block contents link.name tid (part_in link number)
+long_listed contents number tid (Some link) = long_block contents link.name tid (early_part link number)
 
 pub long_items : {A : Type 0} (f : A → List ℕ) (size : A → ℕ) (same : (item : A) → length (f item) ≡ size item) (items : List A) → length (flat_map f items) ≡ sum_by size items
 long_items f size same [] = refl
@@ -63,7 +63,7 @@ size_most Parent = omega arith
 
 pub long_blank_listed : (number : ℕ) (item : Option LinkEntry) → length (blank_listed number item) ≡ listed_block_size number item
 long_blank_listed number None = refl
-long_blank_listed number (Some link) = long_blank_block (part_in link number)
+long_blank_listed number (Some link) = long_blank_block (early_part link number)
 
 pub long_blank : (number : ℕ) (items : List (Option LinkEntry)) → length (flat_map (blank_listed number) items) ≡ prefix_size items number
 long_blank number items = long_items (blank_listed number) (listed_block_size number) (long_blank_listed number) items
@@ -92,16 +92,16 @@ module _ (contents : Contents) (relation : ℕ) (tid : Tid) where
   abbrev pub front_of : List (Option LinkEntry) → ℕ → List ℕ
   front_of items number = relation ∷ flat_map (listed_block contents relation tid) (take (number - 1) items)
 
-  abbrev pub back_of : List (Option LinkEntry) → ℕ → List Value → List ℕ
-  back_of items number values = flat_map (listed_block contents relation tid) (drop number items) ++ tuple_bytes values
+  abbrev pub back_of : List (Option LinkEntry) → ℕ → List ℕ → List ℕ
+  back_of items number values = flat_map (listed_block contents relation tid) (drop number items) ++ values
 
   pub long_front : (items : List (Option LinkEntry)) (number : ℕ) → length (front_of items number) ≡ 1 + prefix_size (take (number - 1) items) relation
   long_front items number = omega (arith, long_prefix contents relation tid (take (number - 1) items))
 
-  pub cut_items : (items : List (Option LinkEntry)) (number : ℕ) (link : LinkEntry) (values : List Value) → numbered items number ≡ Some link
-      → relation ∷ (flat_map (listed_block contents relation tid) items ++ tuple_bytes values) ≡ front_of items number ++ (block_of contents link.name tid (part_in link relation) ++ back_of items number values)
+  pub cut_items : (items : List (Option LinkEntry)) (number : ℕ) (link : LinkEntry) (values : List ℕ) → numbered items number ≡ Some link
+      → relation ∷ (flat_map (listed_block contents relation tid) items ++ values) ≡ front_of items number ++ (block_of contents link.name tid (early_part link relation) ++ back_of items number values)
   cut_items items number link values at =
-      let block : List ℕ = block_of contents link.name tid (part_in link relation) in
+      let block : List ℕ = block_of contents link.name tid (early_part link relation) in
       let front : List ℕ = flat_map (listed_block contents relation tid) (take (number - 1) items) in
       let back : List ℕ = flat_map (listed_block contents relation tid) (drop number items) in
       let cut : flat_map (listed_block contents relation tid) items ≡ front ++ (block ++ back) =
@@ -109,13 +109,13 @@ module _ (contents : Contents) (relation : ℕ) (tid : Tid) where
       ∙ flat_map-append (listed_block contents relation tid) (take (number - 1) items) (Some link ∷ drop number items)
       ∙ ap (λ (l : List ℕ). front ++ l) (flat_map-cons (listed_block contents relation tid) (Some link) (drop number items)) in
       ap (λ (l : List ℕ). relation ∷ l)
-      (ap (λ (l : List ℕ). l ++ tuple_bytes values) cut
-      ∙ append_assoc front (block ++ back) (tuple_bytes values)
-      ∙ ap (λ (l : List ℕ). front ++ l) (append_assoc block back (tuple_bytes values)))
+      (ap (λ (l : List ℕ). l ++ values) cut
+      ∙ append_assoc front (block ++ back) values
+      ∙ ap (λ (l : List ℕ). front ++ l) (append_assoc block back values))
 
   pub has_block : (listing : Listing) (number : ℕ) (link : LinkEntry) (values : List Value) → link_at listing number ≡ Some link
-      → HasBytes (body_of listing contents relation tid values) (block_at listing number relation) (block_of contents link.name tid (part_in link relation))
+      → HasBytes (body_of listing contents relation tid values) (block_at listing number relation) (block_of contents link.name tid (early_part link relation))
   has_block listing number link values at =
-      let block : List ℕ = block_of contents link.name tid (part_in link relation) in
-      subst (λ (body : List ℕ). HasBytes body (block_at listing number relation) block) (sym (cut_items listing.links number link values at))
-      (has_between (front_of listing.links number) block (back_of listing.links number values) (block_at listing number relation) (long_front listing.links number))
+      let block : List ℕ = block_of contents link.name tid (early_part link relation) in
+      subst (λ (body : List ℕ). HasBytes body (block_at listing number relation) block) (sym (cut_items listing.links number link (tuple_bytes (fields_at listing relation) values) at))
+      (has_between (front_of listing.links number) block (back_of listing.links number (tuple_bytes (fields_at listing relation) values)) (block_at listing number relation) (long_front listing.links number))

@@ -1,16 +1,15 @@
 -- The bodies of tables in which one chain has another list.
 use Rattle.std.proofs.Common.{◌≡◌, inl, inr, ℕ, ◌+◌, ◌-◌, ◌<◌, ◌≤◌, suc, true, false, List, [], ◌∷◌, ◌++◌, length, get_or, take, drop, Option, Some, None, refl, sym, ◌∙◌, ap, subst, arith}
-use Rattle.std.specs.Prelude.{◌==◌, not, is_some, flat_map}
-use Rattle.std.proofs.lemmas.Bool.{cases_eq, cond-false}
+use Rattle.std.specs.Prelude.{not, is_some, flat_map}
+use Rattle.std.proofs.lemmas.Bool.{cases_eq}
 use Rattle.std.proofs.lemmas.Option.{same_Some}
 use Rattle.std.proofs.lemmas.List.{take_at, drop_at, take-append-drop, drop-drop, take-set, drop-set-lt, get_or-take, get_or-drop, length-take}
 use Rattle.std.proofs.lemmas.List.Concat.{flat_map-cons}
-use Rattle.rss_base.specs.Listings.{Listing, with_number, relation_at, link_at, is_parent_in, with_link}
-use Rattle.rss_base.specs.Prefixes.{Ends, Part, Outside, Parent, part_in, lower_part, block_size, ends_of, parent_block}
+use Rattle.rss_base.specs.Listings.{Listing, with_number, relation_at, link_at, with_link}
+use Rattle.rss_base.specs.Prefixes.{Ends, Part, Outside, Parent, early_part, lower_part, block_size, ends_of, parent_block}
 use Rattle.rss_base.specs.TupleTypes.{tuple_bytes}
 use Rattle.rss_base.specs.declared.name.Name.{Name}
 use Rattle.rss_base.specs.declared.tid.Tid.{Tid}
-use Rattle.rss_base.specs.declared.value.Value.{Value}
 use Rattle.rss_base.specs.declared.relation.RelationEntry.{RelationEntry}
 use Rattle.rss_base.specs.declared.link.LinkEntry.{LinkEntry}
 use Rattle.rss_catalog.specs.Catalogs.{with_ends}
@@ -18,10 +17,10 @@ use Rattle.rss_catalog.proofs.Numbered.{numbered_within, with_same}
 use Rattle.rss_tuple.specs.Directory.{Bodies}
 use Rattle.rss_model.specs.Tables.{LinkDef, Tables}
 use Rattle.rss_model.specs.Chains.{chain, is_there, LinksFit}
-use Rattle.rss_model.specs.Store.{block_of, listed_block, body_of, link_definition}
-use Rattle.rss_model.proofs.Listed.{at_place}
+use Rattle.rss_stored.specs.Store.{fields_at, block_of, listed_block, body_of, link_definition}
+use Rattle.rss_stored.proofs.Listed.{at_place}
 use Rattle.rss_model.proofs.LogLists.{none_some}
-use Rattle.rss_model.proofs.Spelled.{name_numbered}
+use Rattle.rss_stored.proofs.Spelled.{name_numbered}
 use Rattle.rss_link.specs.declared.link.Chains.{Chains}
 use Rattle.rss_link.specs.Blocks.{HasBytes}
 use Rattle.rss_link.specs.Chains.{Linkage, Lists, with_list, relinked}
@@ -31,7 +30,7 @@ use Rattle.rss_link.proofs.Prefixed.{prefixed as is_prefixed}
 use Rattle.rss_members.specs.Members.{block_at, segment_of, of_parents, chains_of, is_parent, linkage_of, with_chain, SpellsMembers}
 use Rattle.rss_members.proofs.Prefixed.{long_block, long_front, front_of, back_of, cut_items}
 use Rattle.rss_members.proofs.Chained.{lower_block}
-use Rattle.rss_members.proofs.Spelled.{eqb_off, part_of_child, part_of_parent, HasBody, HasAbove, one_relation, above_listed, parent_named, is_above, defined, kind, body_there}
+use Rattle.rss_members.proofs.Spelled.{part_of_child, part_of_parent, part_outside, HasBody, HasAbove, one_relation, above_listed, parent_named, is_above, defined, kind, body_there}
 use Rattle.rss_members.proofs.Apart.{size_of_child}
 use Rattle.rss_members.proofs.Linked.{chain_now, same_block, links_now, one_lower_block}
 
@@ -58,15 +57,6 @@ pub flat_alike : {A : Type 0} (f g : A → List ℕ) (items : List A) (d : A) �
 flat_alike f g [] d alike = refl
 flat_alike f g (item ∷ items) d alike =
     flat_map-cons f item items ∙ (λ i. alike 0 (omega arith) i ++ flat_alike f g items d (λ k lt. alike (suc k) (omega (arith, lt))) i) ∙ sym (flat_map-cons g item items)
-
-part_outside : (link : LinkEntry) (relation : ℕ) → (relation ≡ link.child → ⊥) → (link.parent ≡ Some relation → ⊥) → part_in link relation ≡ Outside
-part_outside link relation off off_above =
-    cond-false (link.child == relation) (lower_part link.parent) _ (eqb_off link.child relation (λ e. off (sym e)))
-    ∙ cond-false (is_parent_in link.parent relation) Parent Outside (by link.parent refl)
-  where
-    by : (above : Option ℕ) → link.parent ≡ above → is_parent_in link.parent relation ≡ false
-    by None is = ap (λ (o : Option ℕ). is_parent_in o relation) is
-    by (Some p) is = ap (λ (o : Option ℕ). is_parent_in o relation) is ∙ eqb_off p relation (λ e. off_above (is ∙ ap (λ (r : ℕ). Some r) e))
 
 module _ {listing : Listing} {bodies : Bodies} {tables : Tables} (spells : SpellsMembers listing bodies tables) (number : ℕ) (link : LinkEntry) (at : link_at listing number ≡ Some link)
     (child : RelationEntry) (child_at : relation_at listing link.child ≡ Some child) (ends : Ends) (parent : Option Tid) (list : List Tid) (new : Bodies) where
@@ -98,7 +88,7 @@ module _ {listing : Listing} {bodies : Bodies} {tables : Tables} (spells : Spell
       where
         by : (o : Option LinkEntry) → get_or listing.links k None ≡ o → listed_block tables.contents relation tid o ≡ listed_block now.contents relation tid o
         by None is = refl
-        by (Some l) is = sym (same_block tables link.name parent list spells.links l.name (other_name k l off is) tid (part_in l relation))
+        by (Some l) is = sym (same_block tables link.name parent list spells.links l.name (other_name k l off is) tid (early_part l relation))
 
     low : 1 ≤ number
     low = (numbered_within listing.links number link at).0
@@ -112,8 +102,8 @@ module _ {listing : Listing} {bodies : Bodies} {tables : Tables} (spells : Spell
         ap (listed_block tables.contents relation tid) here ∙ alike_at k (λ e. omega (arith, e, less, low)) ∙ ap (listed_block now.contents relation tid) (sym here))
         ∙ ap (flat_map (listed_block now.contents relation tid)) (sym (take-set listing.links (number - 1) (Some (with_ends ends.first ends.last link)))))
 
-    same_back : (values : List Value) → back_of tables.contents relation tid listing.links number values ≡ back_of now.contents relation tid items_now number values
-    same_back values = ap (λ (l : List ℕ). l ++ tuple_bytes values)
+    same_back : (values : List ℕ) → back_of tables.contents relation tid listing.links number values ≡ back_of now.contents relation tid items_now number values
+    same_back values = ap (λ (l : List ℕ). l ++ values)
         (flat_alike (listed_block tables.contents relation tid) (listed_block now.contents relation tid) (drop number listing.links) None
         (λ k lt.
         let here : get_or (drop number listing.links) k None ≡ get_or listing.links (number + k) None = get_or-drop number listing.links k None in
@@ -136,26 +126,26 @@ module _ {listing : Listing} {bodies : Bodies} {tables : Tables} (spells : Spell
     record IsWritten (relation : ℕ) (tid : Tid) (old : List ℕ) : Type 0 where
       body : List ℕ
       there : new (segment_of listing relation) tid ≡ Some body
-      agree : AgreeOff (block_at listing number relation) (block_size (part_in link relation)) old body
-      block : HasBytes body (block_at listing number relation) (block_of now.contents link.name tid (part_in link relation))
+      agree : AgreeOff (block_at listing number relation) (block_size (early_part link relation)) old body
+      block : HasBytes body (block_at listing number relation) (block_of now.contents link.name tid (early_part link relation))
 
     abbrev old_body : (relation : ℕ) (tid : Tid) → HasBody spells relation tid → List ℕ
     old_body relation tid has = body_of listing tables.contents relation tid has.values
 
     -- of a child
     child_agrees : (tid : Tid) → linkage.children tid ≡ true → (x y : List ℕ) (o n : Option (List ℕ)) → KeepsBody its linkage (segment_of listing link.child) tid o n → o ≡ Some x → n ≡ Some y
-        → AgreeOff (block_at listing number link.child) (block_size (part_in link link.child)) x y
+        → AgreeOff (block_at listing number link.child) (block_size (early_part link link.child)) x y
     child_agrees tid is x y o n (same e) was is_now = agrees_itself _ _ x y (same_Some _ _ (sym was ∙ sym e ∙ is_now))
     child_agrees tid is x y o n (of_child {body = b} {now = m} here is_child was_too now_too agree) was is_now =
-        agrees_as _ _ _ _ b m x y (same_Some _ _ (sym was_too ∙ was)) (same_Some _ _ (sym now_too ∙ is_now)) refl (size_of_child link.parent ∙ sym (ap block_size (part_of_child link))) agree
+        agrees_as _ _ _ _ b m x y (same_Some _ _ (sym was_too ∙ was)) (same_Some _ _ (sym now_too ∙ is_now)) refl (size_of_child link.parent ∙ sym (ap block_size (part_of_child link (spells.listed.paths.links number link at).early))) agree
     child_agrees tid is x y o n (of_parent binary here is_parent was_too now_too agree) was is_now = absurd (spelled.apart binary here tid is is_parent)
 
-    child_bytes : (tid : Tid) (bytes : List ℕ) → IsLowerBlock (not (is_some link.parent)) (with_list (chain tables.contents link.name) parent list) tid bytes → bytes ≡ block_of now.contents link.name tid (part_in link link.child)
+    child_bytes : (tid : Tid) (bytes : List ℕ) → IsLowerBlock (not (is_some link.parent)) (with_list (chain tables.contents link.name) parent list) tid bytes → bytes ≡ block_of now.contents link.name tid (early_part link link.child)
     child_bytes tid bytes is =
         one_lower_block (with_list (chain tables.contents link.name) parent list) tid (λ p q. prefix.lists.alone p q tid) (not (is_some link.parent)) bytes (block_of now.contents link.name tid (lower_part link.parent)) is
         (subst (λ (l : Lists). IsLowerBlock (not (is_some link.parent)) l tid (block_of now.contents link.name tid (lower_part link.parent))) lists_now
         (lower_block links_again link.name definition (defined spells number link at child child_at) link.parent (sym (kind spells number link at child child_at)) tid))
-        ∙ ap (block_of now.contents link.name tid) (sym (part_of_child link))
+        ∙ ap (block_of now.contents link.name tid) (sym (part_of_child link (spells.listed.paths.links number link at).early))
 
     child_written : (tid : Tid) → linkage.children tid ≡ true → (has : HasBody spells link.child tid) → IsWritten link.child tid (old_body link.child tid has)
     child_written tid is has =
@@ -172,11 +162,11 @@ module _ {listing : Listing} {bodies : Bodies} {tables : Tables} (spells : Spell
       binary = ap (λ (o : Option ℕ). not (is_some o)) above.is
 
       parent_agrees : (tid : Tid) → linkage.parents tid ≡ true → (x y : List ℕ) (o n : Option (List ℕ)) → KeepsBody its linkage (segment_of listing above.number) tid o n → o ≡ Some x → n ≡ Some y
-          → AgreeOff (block_at listing number above.number) (block_size (part_in link above.number)) x y
+          → AgreeOff (block_at listing number above.number) (block_size (early_part link above.number)) x y
       parent_agrees tid is x y o n (same e) was is_now = agrees_itself _ _ x y (same_Some _ _ (sym was ∙ sym e ∙ is_now))
       parent_agrees tid is x y o n (of_child here is_child was_too now_too agree) was is_now = absurd (spelled.apart binary (sym here ∙ sym (ap (of_parents (segment_of listing)) above.is)) tid is_child is)
       parent_agrees tid is x y o n (of_parent {body = b} {now = m} two here is_parent was_too now_too agree) was is_now =
-          agrees_as _ _ _ _ b m x y (same_Some _ _ (sym was_too ∙ was)) (same_Some _ _ (sym now_too ∙ is_now)) (ap (of_parents (block_at listing number)) above.is) (sym (ap block_size (part_of_parent link above.number above.is above.other))) agree
+          agrees_as _ _ _ _ b m x y (same_Some _ _ (sym was_too ∙ was)) (same_Some _ _ (sym now_too ∙ is_now)) (ap (of_parents (block_at listing number)) above.is) (sym (ap block_size (part_of_parent link (spells.listed.paths.links number link at).early above.number above.is above.other))) agree
 
       parent_written : (tid : Tid) → linkage.parents tid ≡ true → (has : HasBody spells above.number tid) → IsWritten above.number tid (old_body above.number tid has)
       parent_written tid is has =
@@ -188,7 +178,7 @@ module _ {listing : Listing} {bodies : Bodies} {tables : Tables} (spells : Spell
             body = upper.body;
             there = there;
             agree = parent_agrees tid is (old_body above.number tid has) upper.body _ _ (keeps (segment_of listing above.number) tid) has.there there;
-            block = subst (λ (part : Part). HasBytes upper.body (block_at listing number above.number) (block_of now.contents link.name tid part)) (sym (part_of_parent link above.number above.is above.other)) block;
+            block = subst (λ (part : Part). HasBytes upper.body (block_at listing number above.number) (block_of now.contents link.name tid part)) (sym (part_of_parent link (spells.listed.paths.links number link at).early above.number above.is above.other)) block;
           }
 
     -- of another relation
@@ -201,7 +191,7 @@ module _ {listing : Listing} {bodies : Bodies} {tables : Tables} (spells : Spell
           absurd (off_above (above.is ∙ ap (λ (r : ℕ). Some r) (sym (one_relation spells (segment_of listing relation) relation above.number tid refl (here ∙ ap (of_parents (segment_of listing)) above.is) has
           (body_there spells above.number above.relation tid above.at (is_above spells number link at child child_at above tid is_parent))))))
 
-      no_part : part_in link relation ≡ Outside
+      no_part : early_part link relation ≡ Outside
       no_part = part_outside link relation off off_above
 
       other_written : IsWritten relation tid (old_body relation tid has)
@@ -239,9 +229,9 @@ module _ {listing : Listing} {bodies : Bodies} {tables : Tables} (spells : Spell
         let w = written relation entry tid entry_at is has in
         let bounds = numbered_within listing.links number link at in
         w.there ∙ ap (λ (l : List ℕ). Some l)
-        (rebuilt (block_at listing number relation) (block_size (part_in link relation)) (front_of tables.contents relation tid listing.links number) (block_of now.contents link.name tid (part_in link relation))
-        (block_of tables.contents link.name tid (part_in link relation)) (back_of tables.contents relation tid listing.links number has.values) (old_body relation tid has) w.body
-        (long_front tables.contents relation tid listing.links number) (long_block tables.contents link.name tid (part_in link relation)) (long_block now.contents link.name tid (part_in link relation))
-        (cut_items tables.contents relation tid listing.links number link has.values at) w.agree w.block
-        ∙ (λ i. same_front relation tid i ++ (block_of now.contents link.name tid (part_in link relation) ++ same_back relation tid has.values i))
-        ∙ sym (cut_items now.contents relation tid items_now number (with_ends ends.first ends.last link) has.values (with_same listing.links number (Some (with_ends ends.first ends.last link)) bounds.0 bounds.1)))
+        (rebuilt (block_at listing number relation) (block_size (early_part link relation)) (front_of tables.contents relation tid listing.links number) (block_of now.contents link.name tid (early_part link relation))
+        (block_of tables.contents link.name tid (early_part link relation)) (back_of tables.contents relation tid listing.links number (tuple_bytes (fields_at listing relation) has.values)) (old_body relation tid has) w.body
+        (long_front tables.contents relation tid listing.links number) (long_block tables.contents link.name tid (early_part link relation)) (long_block now.contents link.name tid (early_part link relation))
+        (cut_items tables.contents relation tid listing.links number link (tuple_bytes (fields_at listing relation) has.values) at) w.agree w.block
+        ∙ (λ i. same_front relation tid i ++ (block_of now.contents link.name tid (early_part link relation) ++ same_back relation tid (tuple_bytes (fields_at listing relation) has.values) i))
+        ∙ sym (cut_items now.contents relation tid items_now number (with_ends ends.first ends.last link) (tuple_bytes (fields_at listing relation) has.values) (with_same listing.links number (Some (with_ends ends.first ends.last link)) bounds.0 bounds.1)))

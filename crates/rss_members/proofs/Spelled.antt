@@ -1,12 +1,12 @@
 -- The chains of each listed link are spelled, where tables are.
-use Rattle.std.proofs.Common.{◌≡◌, ℕ, true, false, List, Option, Some, None, refl, sym, ◌∙◌, ap, subst, get_or, ◌<◌, ◌^◌, arith}
-use Rattle.std.specs.Prelude.{◌≢◌, ◌==◌, not, is_some, IfSome, option_map, option_and_then}
+use Rattle.std.proofs.Common.{◌≡◌, ℕ, Bool, true, false, List, Option, Some, None, refl, sym, ◌∙◌, ap, subst, get_or, ◌<◌, ◌^◌, arith}
+use Rattle.std.specs.Prelude.{◌≢◌, ◌==◌, not, if◌then◌else◌, is_some, IfSome, option_map, option_and_then}
 use Rattle.std.specs.FinMap as map
 use Rattle.std.proofs.lemmas.Option.{same_Some}
 use Rattle.std.proofs.lemmas.Bool.{cond-true, cond-false, ne_eqb}
 use Rattle.rss_base.specs.Sizes.{page_entries}
 use Rattle.rss_base.specs.Listings.{IsSpelled, Listing, LinkFits, relation_at, link_at, is_parent_in}
-use Rattle.rss_base.specs.Prefixes.{Part, Outside, Parent, part_in, lower_part, ends_of, parent_block}
+use Rattle.rss_base.specs.Prefixes.{Part, Outside, Parent, part_in, early_part, lower_part, ends_of, parent_block}
 use Rattle.rss_base.specs.declared.name.Name.{Name}
 use Rattle.rss_base.specs.declared.tid.Tid.{Tid}
 use Rattle.rss_base.specs.declared.value.Value.{Value}
@@ -17,7 +17,7 @@ use Rattle.rss_tuple.specs.Directory.{Bodies}
 use Rattle.rss_model.specs.Items.{Content}
 use Rattle.rss_model.specs.Tables.{LinkDef, Tables, content}
 use Rattle.rss_model.specs.Chains.{chain, is_there}
-use Rattle.rss_model.specs.Store.{block_of, body_of, relation_name, link_definition}
+use Rattle.rss_stored.specs.Store.{block_of, body_of, relation_name, link_definition}
 use Rattle.rss_model.proofs.LogLists.{some_of}
 use Rattle.rss_link.specs.Blocks.{IsNamed}
 use Rattle.rss_link.specs.Links.{AreNamed, AreApart, SpellChains}
@@ -33,13 +33,31 @@ use Rattle.rss_members.proofs.Chained.{its_lists, lower_block}
 pub eqb_off : (a b : ℕ) → (a ≡ b → ⊥) → (a == b) ≡ false
 eqb_off a b off = ne_eqb a b off
 
-pub part_of_child : (link : LinkEntry) → part_in link link.child ≡ lower_part link.parent
-part_of_child link = cond-true (link.child == link.child) (lower_part link.parent) _ (eqb_itself link.child)
+-- one that isn't late has the block of its part in the prefix
+pub part_of_early : (link : LinkEntry) (relation : ℕ) (part : Part) → link.late ≡ false → part_in link relation ≡ part → early_part link relation ≡ part
+part_of_early link relation part early is = cond-false link.late Outside (part_in link relation) early ∙ is
 
-pub part_of_parent : (link : LinkEntry) (relation : ℕ) → link.parent ≡ Some relation → (relation ≡ link.child → ⊥) → part_in link relation ≡ Parent
-part_of_parent link relation is other =
+pub part_of_child : (link : LinkEntry) → link.late ≡ false → early_part link link.child ≡ lower_part link.parent
+part_of_child link early = part_of_early link link.child (lower_part link.parent) early (cond-true (link.child == link.child) (lower_part link.parent) _ (eqb_itself link.child))
+
+-- one that has no part in the link has no block
+pub part_outside : (link : LinkEntry) (relation : ℕ) → (relation ≡ link.child → ⊥) → (link.parent ≡ Some relation → ⊥) → early_part link relation ≡ Outside
+part_outside link relation off off_above = either link.late
+    (cond-false (link.child == relation) (lower_part link.parent) _ (eqb_off link.child relation (λ e. off (sym e)))
+    ∙ cond-false (is_parent_in link.parent relation) Parent Outside (by link.parent refl))
+  where
+    by : (above : Option ℕ) → link.parent ≡ above → is_parent_in link.parent relation ≡ false
+    by None is = ap (λ (o : Option ℕ). is_parent_in o relation) is
+    by (Some p) is = ap (λ (o : Option ℕ). is_parent_in o relation) is ∙ eqb_off p relation (λ e. off_above (is ∙ ap (λ (r : ℕ). Some r) e))
+
+    either : (late : Bool) {part : Part} → part ≡ Outside → (if late then Outside else part) ≡ Outside
+    either true is = refl
+    either false is = is
+
+pub part_of_parent : (link : LinkEntry) → link.late ≡ false → (relation : ℕ) → link.parent ≡ Some relation → (relation ≡ link.child → ⊥) → early_part link relation ≡ Parent
+part_of_parent link early relation is other = part_of_early link relation Parent early (
     cond-false (link.child == relation) (lower_part link.parent) _ (eqb_off link.child relation (λ same. other (sym same)))
-    ∙ cond-true (is_parent_in link.parent relation) Parent Outside (ap (λ (o : Option ℕ). is_parent_in o relation) is ∙ eqb_itself relation)
+    ∙ cond-true (is_parent_in link.parent relation) Parent Outside (ap (λ (o : Option ℕ). is_parent_in o relation) is ∙ eqb_itself relation))
 
 -- ---- tuples
 
@@ -120,7 +138,7 @@ module _ {listing : Listing} {bodies : Bodies} {tables : Tables} (spells : Spell
       is_above above tid is = subst (λ (o : Option Name). is_parent tables.contents o tid ≡ true) (parent_named above) is
 
       -- its block in the body of a tuple of some relation
-      block_there : (relation : ℕ) (tid : Tid) → HasBody relation tid → BodyHas bodies (segment_of listing relation) tid (block_at listing number relation) (block_of tables.contents link.name tid (part_in link relation))
+      block_there : (relation : ℕ) (tid : Tid) → HasBody relation tid → BodyHas bodies (segment_of listing relation) tid (block_at listing number relation) (block_of tables.contents link.name tid (early_part link relation))
       block_there relation tid has = record { body = body_of listing tables.contents relation tid has.values; there = has.there; has = has_block tables.contents relation tid listing number link has.values at }
 
       named : AreNamed (linkage_of tables.contents link.name definition)
@@ -138,13 +156,13 @@ module _ {listing : Listing} {bodies : Bodies} {tables : Tables} (spells : Spell
       blocks : HaveBlocks (chains_of listing number link) (listed_ends link) bodies (linkage_of tables.contents link.name definition)
       blocks = record {
         children = λ tid is. record {
-          bytes = block_of tables.contents link.name tid (part_in link link.child);
-          is = subst (λ (part : Part). lower part tid) (sym (part_of_child link)) (lower_block spells.links link.name definition defined link.parent (sym kind) tid);
+          bytes = block_of tables.contents link.name tid (early_part link link.child);
+          is = subst (λ (part : Part). lower part tid) (sym (part_of_child link fits.early)) (lower_block spells.links link.name definition defined link.parent (sym kind) tid);
           has = block_there link.child tid (body_there link.child child tid child_at is);
         };
         parents = λ tid binary is.
             let above = above_listed binary in
-            let has = subst (λ (part : Part). BodyHas bodies (segment_of listing above.number) tid (block_at listing number above.number) (block_of tables.contents link.name tid part)) (part_of_parent link above.number above.is above.other)
+            let has = subst (λ (part : Part). BodyHas bodies (segment_of listing above.number) tid (block_at listing number above.number) (block_of tables.contents link.name tid part)) (part_of_parent link fits.early above.number above.is above.other)
             (block_there above.number tid (body_there above.number above.relation tid above.at (is_above above tid is))) in
             subst (λ (o : Option ℕ). BodyHas bodies (of_parents (segment_of listing) o) tid (of_parents (block_at listing number) o) (parent_block (ends_of (chain tables.contents link.name (Some tid))))) (sym above.is) has;
         kept = λ unary. let ends = spells.contents.ends number link at in λ i. record { first = ends.0 i; last = ends.1 i };

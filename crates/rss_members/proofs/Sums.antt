@@ -12,7 +12,7 @@ use Rattle.rss_base.specs.Prefixes.{listed_block_size, prefix_size}
 use Rattle.rss_base.specs.declared.link.LinkEntry.{LinkEntry}
 use Rattle.rss_base.specs.declared.refusal.Kind.TheVariants.{Link as LinkKind}
 use Rattle.rss_catalog.proofs.Numbered.{numbered_past, numbered_map, unused_none}
-use Rattle.rss_model.proofs.Listed.{at_place}
+use Rattle.rss_stored.proofs.Listed.{at_place}
 use Rattle.rss_members.specs.Members.{blank_listed}
 use Rattle.rss_members.proofs.Prefixed.{long_blank_listed, long_blank}
 

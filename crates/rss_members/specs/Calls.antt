@@ -22,7 +22,7 @@ use Rattle.rss_tuple.specs.TupleSteps.{TuplesView, Tuples, no_tuple}
 use Rattle.rss_model.specs.Tables.{Contents, Tables}
 use Rattle.rss_model.specs.Items.{name_cmp, parent_of}
 use Rattle.rss_model.specs.Chains.{chain, chain_with, stands_in, with_behind, without, next_of, connected, is_connected, is_there, HasParent}
-use Rattle.rss_model.specs.Store.{IsListedLink, link_definition}
+use Rattle.rss_stored.specs.Store.{IsListedLink, link_definition}
 use Rattle.rss_link.specs.Calls.{TellsBodies, HoldsHeaps, link_pages, link_tuples}
 use Rattle.rss_members.specs.declared.membership.Membership.{Membership}
 use Rattle.rss_members.specs.Members.{chains_of, SpellsMembers, with_chain}

@@ -2,7 +2,7 @@
 use Rattle.std.specs.Prelude.{◌≡◌, ℕ, ◌+◌, ◌-◌, ◌*◌, Bool, true, false, not, List, [], take, flat_map, Option, Some, None, is_some}
 use Rattle.rss_base.specs.Sizes.{roles_most}
 use Rattle.rss_base.specs.Listings.{Listing, ListingFits, IsSpelled, relation_at, link_at}
-use Rattle.rss_base.specs.Prefixes.{Ends, Part, Outside, Member, Child, Parent, part_in, ends_of, member_block, child_block, parent_block, prefix_size}
+use Rattle.rss_base.specs.Prefixes.{Ends, Part, Outside, Member, Child, Parent, early_part, ends_of, member_block, child_block, parent_block, prefix_size}
 use Rattle.rss_base.specs.declared.name.Name.{Name}
 use Rattle.rss_base.specs.declared.tid.Tid.{Tid}
 use Rattle.rss_base.specs.declared.item.Item.TheVariants.{Tuple as TupleItem, Chain as ChainItem}
@@ -13,7 +13,7 @@ use Rattle.rss_model.specs.Items.{Content}
 use Rattle.rss_model.specs.Tables.{LinkDef, Contents, Tables, content, put}
 use Rattle.rss_model.specs.Chains.{chain, chain_content, stands_in, is_there, LinksFit}
 use Rattle.rss_model.specs.Fits.{IsTupleOf}
-use Rattle.rss_model.specs.Store.{Defines, SpellsContents, link_definition}
+use Rattle.rss_stored.specs.Store.{Defines, SpellsContents, link_definition}
 use Rattle.rss_link.specs.declared.link.Chains.{Chains}
 use Rattle.rss_link.specs.Chains.{Linkage}
 
@@ -105,7 +105,7 @@ blank_block Parent = parent_block (ends_of [])
 
 abbrev pub blank_listed : ℕ → Option LinkEntry → List ℕ
 blank_listed relation None = []
-blank_listed relation (Some link) = blank_block (part_in link relation)
+blank_listed relation (Some link) = blank_block (early_part link relation)
 
 -- the prefix of such a tuple, by the number of its relation
 abbrev pub blank_prefix : Listing → ℕ → List ℕ

@@ -9,7 +9,7 @@ ghost use Rattle.rss_base.specs.declared.relation.RelationEntry.{RelationEntry a
 ghost use Rattle.rss_tuple.specs.TupleSteps.{TuplesCall, no_tuple};
 ghost use Rattle.rss_model.specs.Items.{name_cmp};
 ghost use Rattle.rss_model.specs.Chains.{is_connected};
-ghost use Rattle.rss_model.specs.Store.{IsListedLink, link_definition};
+ghost use Rattle.rss_stored.specs.Store.{IsListedLink, link_definition};
 ghost use Rattle.rss_members.specs.Calls.{both, MayAskTuple, AnswersTuple, FindsConnected};
 ghost use Rattle.rss_members.specs.Calls.{IsFirstBelow, IsLesser};
 

@@ -8,7 +8,7 @@ ghost use Rattle.rss_base.specs.declared.tid.Tid.{Tid as SomeTid};
 ghost use Rattle.rss_catalog.specs.Catalogs.{with_ends};
 ghost use Rattle.rss_tuple.specs.Directory.{Bodies};
 ghost use Rattle.rss_model.specs.Tables.{Contents, Tables};
-ghost use Rattle.rss_model.specs.Store.{prefix_of, IsListedLink};
+ghost use Rattle.rss_stored.specs.Store.{prefix_of, IsListedLink};
 ghost use Rattle.rss_link.specs.Chains.{IsParent, relinked};
 ghost use Rattle.rss_link.specs.Links.{SpellChains, KeepBodies, AreDisjoint};
 ghost use Rattle.rss_members.specs.Members.{chains_of, linkage_in, listed_ends, with_chain};

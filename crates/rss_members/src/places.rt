@@ -1,7 +1,7 @@
 // Where the blocks of links stand.
 ghost use Rattle.std.specs.Prelude.{◌≡◌, ◌+◌, ◌*◌, ◌≤◌, ◌++◌, true, is_some, take, length, Some};
 ghost use Rattle.rss_base.specs.Listings.{link_at};
-ghost use Rattle.rss_base.specs.Prefixes.{part_in, prefix_size};
+ghost use Rattle.rss_base.specs.Prefixes.{early_part, prefix_size};
 ghost use Rattle.rss_base.specs.Sizes.{links_most};
 ghost use Rattle.rss_base.specs.declared.link.LinkEntry.{LinkEntry as ALink};
 ghost use Rattle.rss_tuple.specs.Heaps.{body_most};
@@ -23,11 +23,14 @@ const OUTSIDE_CHILD: [u8; 18] = [255; 18];
 
 const CHILDLESS: [u8; 12] = [255; 12];
 
-/// The block of a tuple that stands in no chain of a link and has none, by the number of its relation.
+/// The block that a prefix has of a tuple which stands in no chain of a link and has none, by the number
+/// of its relation. A late link has none there.
 fn blank_block(link: &LinkEntry, relation: u8) -> &'static [u8]
-    ensures { result.now ≡ blank_block (part_in link.now relation) }
+    ensures { result.now ≡ blank_block (early_part link.now relation) }
 {
-    if link.child == relation {
+    if link.late {
+        &[]
+    } else if link.child == relation {
         match link.parent {
             None => &OUTSIDE_MEMBER,
             Some(_) => &OUTSIDE_CHILD,

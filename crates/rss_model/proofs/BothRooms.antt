@@ -33,8 +33,8 @@ pub changes_keep_rooms : ChangesKeepRooms
 changes_keep_rooms state change over locks metered is may_lead =
     let may = lets_through state change is in
     record {
-      metered = metered_from state change over locks (meter_behind state change) (says_behind state change metered) may.pages may_lead.one;
-      log = log_behind state.size.log_pages (change_size change) (counted change over (meter_behind state change)).stamps (meter_behind state change).head (meter_behind state change).end may.log;
+      metered = metered_from state change over locks (meter_behind state change) (says_behind state change metered) may.pages may_lead;
+      log = log_behind state.size.log_pages (change_size state.base.definitions change) (counted state.base.definitions change over (meter_behind state change)).stamps (meter_behind state change).head (meter_behind state change).end may.log;
     }
 
 pub changes_fit_log : ChangesFitLog
@@ -132,7 +132,7 @@ ends_fit_log state t rooms = let log = rooms.log in omega (arith, log, owed_gone
 -- ---- a definition
 
 pub definitions_keep_rooms : DefinitionsKeepRooms
-definitions_keep_rooms state call definitions kept metered many is names so = record {
-  metered = steps_keep_room state (redefined definitions state) call (Ok Done) (defines call definitions is names so) kept metered;
-  log = rests state metered (none_changed kept (none_open state call definitions is so)) many;
+definitions_keep_rooms state call next kept metered many is names so = record {
+  metered = steps_keep_room state (redefined next state) call (Ok Done) (defines call next is names so) kept metered;
+  log = rests state metered (none_changed kept (none_open state call next is so)) many;
 }

@@ -4,7 +4,10 @@ use Rattle.std.specs.FinMap as finite
 use Rattle.rss_base.specs.declared.name.Name.{Name}
 use Rattle.rss_base.specs.declared.tid.Tid.{Tid}
 use Rattle.rss_base.specs.declared.value.Value.{Value}
-use Rattle.rss_base.specs.declared.value.Value.TheVariants.{Int, Text}
+use Rattle.rss_base.specs.declared.value.Value.TheVariants.{Int, Text, Undefined}
+use Rattle.rss_base.specs.declared.value.FieldKind.{FieldKind}
+use Rattle.rss_base.specs.declared.value.FieldKind.TheVariants.{Int as IntField, Text as TextField}
+use Rattle.rss_base.specs.declared.field.FieldDef.{FieldDef}
 use Rattle.rss_base.specs.declared.item.Item.{Item}
 use Rattle.rss_base.specs.declared.item.Item.TheVariants.{Segment, Relation, Tuple, Key}
 use Rattle.rss_base.specs.declared.need.Mode.{Mode}
@@ -17,7 +20,7 @@ use Rattle.rss_base.specs.declared.image.ImageEntry.{ImageEntry}
 use Rattle.rss_base.specs.declared.link.LinkEntry.{LinkEntry}
 use Rattle.rss_base.specs.Nodes.{node_most, node_least, node_spelled}
 use Rattle.rss_model.specs.Items.{Values}
-use Rattle.rss_model.specs.Tables.{ImageDef, Definitions, Tables, content, segment_of}
+use Rattle.rss_model.specs.Tables.{ImageDef, Definitions, Tables, content, fields_in, segment_of}
 use Rattle.rss_model.specs.Chains.{with_behind, left_of, next_of, without}
 use Rattle.rss_model.specs.Images.{Entry, entry, next_entry, repeated, unique_images, key_in}
 use Rattle.rss_model.specs.Changes.{Change, kept_to, cut_off, maker}
@@ -149,8 +152,8 @@ sixth_needs definitions is = (rw is refl, rw is refl)
 
 -- from the last checkpoint on, and behind one
 tenth_needs_twice : (definitions : Definitions) → finite.values definitions.images ≡ []
-    → (room_number definitions (with_change (insertion 1 r (at 9) (number 9)) (metered 0 0 9)) ≡ 100)
-    × (room_number definitions (with_change (insertion 1 r (at 9) (number 9)) (metered 1 9 0)) ≡ 66)
+    → (room_number definitions (with_change definitions (insertion 1 r (at 9) (number 9)) (metered 0 0 9)) ≡ 100)
+    × (room_number definitions (with_change definitions (insertion 1 r (at 9) (number 9)) (metered 1 9 0)) ≡ 66)
 tenth_needs_twice definitions is = (rw is refl, rw is refl)
 
 -- ---- the log rule: a long text after many
@@ -158,17 +161,31 @@ tenth_needs_twice definitions is = (rw is refl, rw is refl)
 abbrev letters : List Value
 letters = Text (replicate 200 97) ∷ []
 
-text_size : change_size (insertion 2 r (at 0) letters) ≡ 215
-text_size = refl
+abbrev one_field : FieldKind → List FieldDef
+one_field kind = record { name = r; kind = kind; added = false } ∷ []
 
-short_size : change_size (insertion 1 r (at 0) (Text (120 ∷ []) ∷ [])) ≡ 16
-short_size = refl
+text_size : (definitions : Definitions) → fields_in definitions r ≡ one_field (TextField 255)
+    → change_size definitions (insertion 2 r (at 0) letters) ≡ 215
+text_size definitions is = rw is refl
 
-number_size : change_size (insertion 1 r (at 0) (number 7)) ≡ 22
-number_size = refl
+short_size : (definitions : Definitions) → fields_in definitions r ≡ one_field (TextField 255)
+    → change_size definitions (insertion 1 r (at 0) (Text (120 ∷ []) ∷ [])) ≡ 16
+short_size definitions is = rw is refl
 
-update_size : change_size (replacement 1 r (at 0) (number 7) (number 8)) ≡ 32
-update_size = refl
+number_size : (definitions : Definitions) → fields_in definitions r ≡ one_field IntField
+    → change_size definitions (insertion 1 r (at 0) (number 7)) ≡ 22
+number_size definitions is = rw is refl
+
+update_size : (definitions : Definitions) → fields_in definitions r ≡ one_field IntField
+    → change_size definitions (replacement 1 r (at 0) (number 7) (number 8)) ≡ 32
+update_size definitions is = rw is refl
+
+-- with an added field behind, a value there has a byte more, and what is undefined none
+added_size : (definitions : Definitions)
+    → fields_in definitions r ≡ record { name = r; kind = IntField; added = false } ∷ record { name = r; kind = IntField; added = true } ∷ []
+    → (change_size definitions (insertion 1 r (at 0) (Int (pos 8) ∷ Int (pos 5) ∷ [])) ≡ 31)
+    × (change_size definitions (insertion 1 r (at 0) (Int (pos 9) ∷ Undefined ∷ [])) ≡ 22)
+added_size definitions is = (rw is refl, rw is refl)
 
 abbrev stamp : ℕ → ℕ → Stamp
 stamp by at = record { by = by; at = at }
@@ -196,17 +213,17 @@ logged stamps end = record {
   over = 0;
 }
 
-long_is_refused : (tables : Tables) (changes : List Change)
-    → (log_needed (insertion 2 r (at 0) letters) (logged (stamp 1 6 ∷ []) 35442) ≡ 637)
+long_is_refused : (tables : Tables) (changes : List Change) → fields_in tables.definitions r ≡ one_field (TextField 255)
+    → (log_needed tables.definitions (insertion 2 r (at 0) letters) (logged (stamp 1 6 ∷ []) 35442) ≡ 637)
     × (log_room 8 (logged (stamp 1 6 ∷ []) 35442) ≡ 557)
     × (log_room 8 (checkpointed 4096 tables changes (logged (stamp 1 6 ∷ []) 35442)) ≡ 543)
-long_is_refused tables changes = (refl, refl, refl)
+long_is_refused tables changes is = (rw is refl, refl, refl)
 
-long_goes_on : (tables : Tables) (changes : List Change)
-    → (log_needed (insertion 2 r (at 0) letters) (logged [] 35447) ≡ 619)
+long_goes_on : (tables : Tables) (changes : List Change) → fields_in tables.definitions r ≡ one_field (TextField 255)
+    → (log_needed tables.definitions (insertion 2 r (at 0) letters) (logged [] 35447) ≡ 619)
     × (log_room 8 (logged [] 35447) ≡ 552)
     × (log_room 8 (checkpointed 4096 tables changes (logged [] 35447)) ≡ 32550)
-long_goes_on tables changes = (refl, refl, refl)
+long_goes_on tables changes is = (rw is refl, refl, refl)
 
 -- ---- save points: a way back, across a checkpoint
 
@@ -325,7 +342,7 @@ abbrev image_listed : ImageEntry
 image_listed = record { name = r; relation = 1; is_unique = true; count = 1; fields = 1 ∷ replicate 15 0; levels = 1; root = 0 }
 
 abbrev link_listed : LinkEntry
-link_listed = record { name = r; parent = Some 1; child = 2; first = None; last = None }
+link_listed = record { name = r; parent = Some 1; child = 2; late = false; first = None; last = None }
 
 entry_sizes : (length (image_spelled (Some image_listed)) ≡ 64) × (length (link_spelled (Some link_listed)) ≡ 64)
 entry_sizes = (refl, refl)

@@ -9,7 +9,7 @@ use Rattle.std.specs.FinMap.{IsAntisymmetric, nat_cmp-IsAntisymmetric, slice_cmp
 use Rattle.rss_base.specs.declared.name.Name.{Name}
 use Rattle.rss_base.specs.declared.tid.Tid.{Tid}
 use Rattle.rss_base.specs.declared.value.Value.{Value}
-use Rattle.rss_base.specs.declared.value.Value.TheVariants.{Int, Text}
+use Rattle.rss_base.specs.declared.value.Value.TheVariants.{Int, Text, Undefined}
 use Rattle.rss_base.specs.declared.item.Item.{Item}
 use Rattle.rss_base.specs.declared.item.Item.TheVariants.{Segment, Relation, Tuple, Chain, Key}
 use Rattle.rss_model.specs.Items.{value_code, values_code, item_code, item_cmp, name_cmp}
@@ -40,6 +40,13 @@ value_code_split (Int (pos m)) (Text b) xs ys is = absurd (cc)
 value_code_split (Int (negsuc m)) (Text b) xs ys is = absurd (cc)
 value_code_split (Text a) (Int (pos n)) xs ys is = absurd (cc)
 value_code_split (Text a) (Int (negsuc n)) xs ys is = absurd (cc)
+value_code_split Undefined Undefined xs ys is = let rest : xs ≡ ys = cc in (refl, rest)
+value_code_split Undefined (Int (pos n)) xs ys is = absurd (cc)
+value_code_split Undefined (Int (negsuc n)) xs ys is = absurd (cc)
+value_code_split Undefined (Text b) xs ys is = absurd (cc)
+value_code_split (Int (pos m)) Undefined xs ys is = absurd (cc)
+value_code_split (Int (negsuc m)) Undefined xs ys is = absurd (cc)
+value_code_split (Text a) Undefined xs ys is = absurd (cc)
 
 values_code_same : (vs ws : List Value) → values_code vs ≡ values_code ws → vs ≡ ws
 values_code_same [] [] is = refl
@@ -49,9 +56,11 @@ values_code_same (v ∷ vs) (w ∷ ws) is =
 values_code_same [] (Int (pos n) ∷ ws) is = absurd (cc)
 values_code_same [] (Int (negsuc n) ∷ ws) is = absurd (cc)
 values_code_same [] (Text b ∷ ws) is = absurd (cc)
+values_code_same [] (Undefined ∷ ws) is = absurd (cc)
 values_code_same (Int (pos n) ∷ vs) [] is = absurd (cc)
 values_code_same (Int (negsuc n) ∷ vs) [] is = absurd (cc)
 values_code_same (Text b ∷ vs) [] is = absurd (cc)
+values_code_same (Undefined ∷ vs) [] is = absurd (cc)
 
 pub same_item : (a b : Item) → item_code a ≡ item_code b → a ≡ b
 same_item (Segment m) (Segment n) is = let bytes : m.bytes ≡ n.bytes = cc in ap Segment (same_name m n bytes)

@@ -1,31 +1,31 @@
 -- What a call commits, by its answer.
 use Rattle.std.proofs.Common.{◌≡◌, refl, sym, ap}
-use Rattle.std.specs.Prelude.{ℕ, Bool, true, false, if◌then◌else◌, Option, Some, None, Ok, Err}
+use Rattle.std.specs.Prelude.{ℕ, Bool, true, false, if◌then◌else◌, Option, Some, None, unwrap_or, Ok, Err}
 use Rattle.rss_base.specs.declared.call.Call.{Call}
 use Rattle.rss_base.specs.declared.call.Call.TheVariants.{End}
 use Rattle.rss_base.specs.declared.answer.Reply.TheVariants.{Ok as Done, Number}
 use Rattle.rss_base.specs.declared.refusal.Refusal.{Refusal}
-use Rattle.rss_model.specs.Tables.{Definitions}
+use Rattle.rss_model.specs.Tables.{Tables}
 use Rattle.rss_model.specs.Machine.{State}
-use Rattle.rss_model.specs.Defining.{defined, with_definitions}
+use Rattle.rss_model.specs.Defining.{defined}
 use Rattle.rss_model.specs.Callers.{caller}
 use Rattle.rss_model.specs.Scans.{Path}
 use Rattle.rss_model.specs.Steps.{keeps_locks, left_by, locked_by, path_of}
-use Rattle.rss_model.specs.Commits.{with_defined, committed, MayCommit}
+use Rattle.rss_model.specs.Commits.{committed, MayCommit}
 
 -- a call that is refused commits nothing
 pub refused_commits : (old : State) (call : Call) (why : Refusal) → committed old call (Err why) ≡ old.base
 refused_commits old (End t) why = refl
 refused_commits old call why = refl
 
--- one that defines commits its definitions
-pub defined_commits : (old : State) (call : Call) (definitions : Definitions) → defined call old.base.definitions ≡ Some definitions → with_definitions definitions old.base ≡ committed old call (Ok Done)
-defined_commits old (End t) definitions so = absurd (cc)
-defined_commits old call definitions so = ap (with_defined old.base) (sym so)
+-- one that defines commits what it defines
+pub defined_commits : (old : State) (call : Call) (next : Tables) → defined call old.base ≡ Some next → next ≡ committed old call (Ok Done)
+defined_commits old (End t) next so = absurd (cc)
+defined_commits old call next so = ap (λ (tables : Option Tables). unwrap_or tables old.base) (sym so)
 
-pub defines_may : (call : Call) (before definitions : Definitions) → defined call before ≡ Some definitions → MayCommit call
-defines_may (End t) before definitions so = tt
-defines_may call before definitions so = cc
+pub defines_may : (call : Call) (before next : Tables) → defined call before ≡ Some next → MayCommit call
+defines_may (End t) before next so = tt
+defines_may call before next so = cc
 
 -- ---- steps that leave what is committed
 

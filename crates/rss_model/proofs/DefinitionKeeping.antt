@@ -62,7 +62,7 @@ module _ (s : State) (kept : Kept s) (metered : IsMetered s) (none : s.changes �
       → room_number definitions later ≤ s.size.slots
   rooms heap images = omega (arith, heap, images, ap (heap_pages s.size.slots) same_now, saved_room s metered, metered.room)
 
-  pub metered_defined : room_number definitions later ≤ s.size.slots → IsMetered (redefined definitions s)
+  pub metered_defined : room_number definitions later ≤ s.size.slots → IsMetered (redefined (with_definitions definitions s.base) s)
   metered_defined room =
       let said = says_saved s metered in
       let tables = ap (λ (l : List Change). with_changes (with_definitions definitions s.base) l) none in record {
@@ -88,25 +88,25 @@ module _ (s : State) (kept : Kept s) (metered : IsMetered s) (none : s.changes �
   fit : Fits s.size.slots s.base
   fit = base_fits s kept.fit
 
-  abbrev Meters : Definitions → Type 0
-  Meters definitions = IsMetered (redefined definitions s)
+  abbrev Meters : Tables → Type 0
+  Meters next = IsMetered (redefined next s)
 
   none_of : {A : Type 0} (o : Option A) → is_some o ≡ false → o ≡ None
   none_of None is = refl
   none_of (Some a) is = absurd (cc (is))
 
-  defined_room : (call : Call) (definitions : Definitions) → refusal s call ≡ None → defined call s.base.definitions ≡ Some definitions → IsMetered (redefined definitions s)
-  defined_room (MakeSegment name) definitions is so = subst Meters (same_Some _ _ so) (
+  defined_room : (call : Call) (next : Tables) → refusal s call ≡ None → defined call s.base ≡ Some next → IsMetered (redefined next s)
+  defined_room (MakeSegment name) next is so = subst Meters (same_Some _ _ so) (
       let fresh = holds_not (is_segment s name) _ (all_none (tests s (MakeSegment name)) is 1 None (omega arith)) in
       let d : Definitions = record s.base.definitions { segments = finite.insert s.base.definitions.segments name tt } in
       metered_defined s kept metered none (record s.base.definitions { segments = finite.insert s.base.definitions.segments name tt }) (rooms s kept metered none (record s.base.definitions { segments = finite.insert s.base.definitions.segments name tt })
       (heap_segment_made s.size.slots s.base.definitions name s.base.contents (none_of _ fresh) (λ q relation at same. true≢false (sym (fit.definitions.relations q relation at).segment ∙ ap (λ (n : Name). is_some (finite.get s.base.definitions.segments n)) same ∙ fresh)))
       (images_stay s kept metered none (record s.base.definitions { segments = finite.insert s.base.definitions.segments name tt }) refl (λ q image at. refl))))
-  defined_room (DropSegment name) definitions is so = subst Meters (same_Some _ _ so)
+  defined_room (DropSegment name) next is so = subst Meters (same_Some _ _ so)
       (metered_defined s kept metered none (record s.base.definitions { segments = finite.remove s.base.definitions.segments name }) (rooms s kept metered none (record s.base.definitions { segments = finite.remove s.base.definitions.segments name })
       (heap_segment_gone s.size.slots s.base.definitions name s.base.contents)
       (images_stay s kept metered none (record s.base.definitions { segments = finite.remove s.base.definitions.segments name }) refl (λ q image at. refl))))
-  defined_room (MakeRelation name segment fields) definitions is so = subst Meters (same_Some _ _ so) (
+  defined_room (MakeRelation name segment fields) next is so = subst Meters (same_Some _ _ so) (
       let fresh = (or_none (is_relation s name) _ (holds_not (is_relation s name || has_twice (field_names fields)) _ (all_none (tests s (MakeRelation name segment fields)) is 2 None (omega arith)))).0 in
       let other = λ (q : Name) (there : is_some (finite.get s.base.definitions.relations q) ≡ true) (same : q ≡ name). true≢false (sym there ∙ ap (λ (n : Name). is_some (finite.get s.base.definitions.relations n)) same ∙ fresh) in
       metered_defined s kept metered none (record s.base.definitions { relations = finite.insert s.base.definitions.relations name (relation_def segment fields) }) (rooms s kept metered none (record s.base.definitions { relations = finite.insert s.base.definitions.relations name (relation_def segment fields) })
@@ -114,7 +114,7 @@ module _ (s : State) (kept : Kept s) (metered : IsMetered s) (none : s.changes �
       made_other s.base.definitions.relations name (relation_def segment fields) relation (other relation (live_defined fit relation one.0 one.1))))
       (images_stay s kept metered none (record s.base.definitions { relations = finite.insert s.base.definitions.relations name (relation_def segment fields) }) refl (λ q image at.
       same_fields s.base.definitions (record s.base.definitions { relations = finite.insert s.base.definitions.relations name (relation_def segment fields) }) image.relation (made_other s.base.definitions.relations name (relation_def segment fields) image.relation (other image.relation (fit.definitions.paths.images q image at).relation))))))
-  defined_room (DropRelation name) definitions is so = subst Meters (same_Some _ _ so) (
+  defined_room (DropRelation name) next is so = subst Meters (same_Some _ _ so) (
       let last = or_none (holds_tuples s name || has_image s name) (has_link s name) (holds_not ((holds_tuples s name || has_image s name) || has_link s name) _ (all_none (tests s (DropRelation name)) is 2 None (omega arith))) in
       let first = or_none (holds_tuples s name) (has_image s name) last.0 in
       let few = leb-false 1 (tuple_count s.base.contents name) first.0 in
@@ -124,30 +124,30 @@ module _ (s : State) (kept : Kept s) (metered : IsMetered s) (none : s.changes �
       (images_stay s kept metered none (record s.base.definitions { relations = finite.remove s.base.definitions.relations name }) refl (λ q image at.
       same_fields s.base.definitions (record s.base.definitions { relations = finite.remove s.base.definitions.relations name }) image.relation (gone_other s.base.definitions.relations name image.relation (λ same.
       false_true (subst (λ (n : Name). eq_by_cmp name_cmp name n ≡ true) (sym same) (tied name_total name_apart name)) (none_any (is_image_of name) (finite.values s.base.definitions.images) first.1 image (in_values s.base.definitions.images q image at))))))))
-  defined_room (MakeImage name relation unique fields) definitions is so = subst Meters (same_Some _ _ so) (
+  defined_room (MakeImage name relation unique fields) next is so = subst Meters (same_Some _ _ so) (
       let d = with_image s.base.definitions name (image_def relation unique fields) in
       let fits = lt_not s.size.slots (room_number (with_image s.base.definitions name (image_def relation unique fields)) (saved_now s)) _ (all_none (tests s (MakeImage name relation unique fields)) is 8 None (omega arith)) in
       let images = sum_le_in (pages_of_image (with_image s.base.definitions name (image_def relation unique fields)) (later s kept metered none (with_image s.base.definitions name (image_def relation unique fields)))) (pages_of_image (with_image s.base.definitions name (image_def relation unique fields)) (saved_now s)) (finite.values (with_image s.base.definitions name (image_def relation unique fields)).images)
       (λ image at. pages_le s kept metered none (with_image s.base.definitions name (image_def relation unique fields)) (with_image s.base.definitions name (image_def relation unique fields)) image refl) in
       let heap = heap_paths s.size.slots s.base.definitions (finite.insert s.base.definitions.images name (image_def relation unique fields)) s.base.definitions.links s.base.contents in
       metered_defined s kept metered none (with_image s.base.definitions name (image_def relation unique fields)) (omega (arith, fits, images, heap, ap (heap_pages s.size.slots) (same_now s kept metered none (with_image s.base.definitions name (image_def relation unique fields))))))
-  defined_room (MakeLink name parent child) definitions is so = subst Meters (same_Some _ _ so)
+  defined_room (MakeLink name parent child) next is so = subst Meters (same_Some _ _ so)
       (metered_defined s kept metered none (record s.base.definitions { links = finite.insert s.base.definitions.links name (link_def parent child) }) (rooms s kept metered none (record s.base.definitions { links = finite.insert s.base.definitions.links name (link_def parent child) })
       (omega (arith, heap_paths s.size.slots s.base.definitions s.base.definitions.images (finite.insert s.base.definitions.links name (link_def parent child)) s.base.contents))
       (images_stay s kept metered none (record s.base.definitions { links = finite.insert s.base.definitions.links name (link_def parent child) }) refl (λ q image at. refl))))
-  defined_room (DropLink name) definitions is so = subst Meters (same_Some _ _ so)
+  defined_room (DropLink name) next is so = subst Meters (same_Some _ _ so)
       (metered_defined s kept metered none (record s.base.definitions { links = finite.remove s.base.definitions.links name }) (rooms s kept metered none (record s.base.definitions { links = finite.remove s.base.definitions.links name })
       (omega (arith, heap_paths s.size.slots s.base.definitions s.base.definitions.images (finite.remove s.base.definitions.links name) s.base.contents))
       (images_stay s kept metered none (record s.base.definitions { links = finite.remove s.base.definitions.links name }) refl (λ q image at. refl))))
-  defined_room (DropImage name) definitions is so = subst Meters (same_Some _ _ so) (
+  defined_room (DropImage name) next is so = subst Meters (same_Some _ _ so) (
       let d = record s.base.definitions { images = finite.remove s.base.definitions.images name } in
       let fewer = remove_sum (pages_of_image s.base.definitions (saved_now s)) (λ e. e.1) s.base.definitions.images name in
       let images = sum_le_in (pages_of_image (record s.base.definitions { images = finite.remove s.base.definitions.images name }) (later s kept metered none (record s.base.definitions { images = finite.remove s.base.definitions.images name }))) (pages_of_image s.base.definitions (saved_now s)) (finite.values (finite.remove s.base.definitions.images name))
       (λ image at. pages_le s kept metered none (record s.base.definitions { images = finite.remove s.base.definitions.images name }) s.base.definitions image refl) in
       metered_defined s kept metered none (record s.base.definitions { images = finite.remove s.base.definitions.images name }) (rooms s kept metered none (record s.base.definitions { images = finite.remove s.base.definitions.images name })
       (omega (arith, heap_paths s.size.slots s.base.definitions (finite.remove s.base.definitions.images name) s.base.definitions.links s.base.contents)) (omega (arith, fewer, images))))
-  defined_room call definitions is so = absurd (cc (so))
+  defined_room call next is so = absurd (cc (so))
 
 pub steps_keep_room : StepsKeepRoom
 steps_keep_room old new call answer step kept metered = room_by old new call answer step
-    (λ definitions is so. defined_room old kept metered (none_changed kept (none_open old call definitions is so)) call definitions is so) kept metered
+    (λ next is so. defined_room old kept metered (none_changed kept (none_open old call next is so)) call next is so) kept metered

@@ -8,8 +8,7 @@ use Rattle.rss_base.specs.declared.name.Name.{Name}
 use Rattle.rss_base.specs.declared.tid.Tid.{Tid}
 use Rattle.rss_base.specs.declared.item.Item.TheVariants.{Tuple, Chain}
 use Rattle.rss_model.specs.Items.{item_cmp, name_cmp}
-use Rattle.rss_model.specs.Tables.{RelationDef, content}
-use Rattle.rss_model.specs.Store.{no_tables}
+use Rattle.rss_model.specs.Tables.{RelationDef, content, no_tables}
 use Rattle.rss_model.specs.Fits.{DefinitionsFit, IsLive, Fits}
 use Rattle.rss_model.proofs.Plain.{plain_paths, plain_keys, plain_links}
 use Rattle.rss_model.proofs.Counts.{counts_none}

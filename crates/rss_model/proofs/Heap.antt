@@ -1,13 +1,9 @@
--- How many pages have identifiers of tuples, and what a page's entries say of its bodies.
+-- Counts of pages, and maps in which nothing is.
 use Rattle.std.proofs.Common.{◌≡◌, ℕ, Bool, false, List, [], ◌∷◌, length, refl, sym, ◌∙◌, ap, arith}
-use Rattle.std.specs.Prelude.{None, count_by}
+use Rattle.std.specs.Prelude.{count_by}
 use Rattle.std.specs.FinMap as map
 use Rattle.std.specs.FinMap.{len-entries, len-empty}
 use Rattle.std.proofs.lemmas.List.Sums.{sum_by-cons}
-use Rattle.std.proofs.lemmas.Option.{none-some}
-use Rattle.rss_page.specs.Content.{Content as Entry, Empty, Here, Forward}
-use Rattle.rss_tuple.specs.Directory.{Entries, body_in, body_by}
-use Rattle.rss_tuple.specs.Heaps.{AreLinked}
 use Rattle.rss_model.specs.Items.{name_cmp}
 use Rattle.rss_model.proofs.Counts.{one_if}
 
@@ -28,16 +24,3 @@ nothing (a ∷ list) is = absurd (omega arith)
 
 pub no_entries : (X : Type 0) → map.entries (map.empty {X = X} {R = name_cmp}) ≡ []
 no_entries X = nothing _ (sym (len-entries map.empty) ∙ len-empty name_cmp X)
-
--- ---- entries and bodies
-
--- an entry of a home page that leads to no body is empty
-pub empty_entry : (home overflow : Entries) → AreLinked home overflow → (page slot : ℕ) → body_by overflow (home page slot) ≡ None → home page slot ≡ Empty
-empty_entry home overflow linked page slot none = by (home page slot) refl none
-  where
-    by : (entry : Entry) → home page slot ≡ entry → body_by overflow entry ≡ None → entry ≡ Empty
-    by Empty is none = refl
-    by (Here body) is none = absurd (cc)
-    by (Forward to_page to_slot) is none =
-        let there = linked.leads page slot to_page to_slot is in
-        absurd (none-some there.body (sym none ∙ ap body_in there.is))

@@ -1,9 +1,9 @@
 -- The list of an image: it has each tuple, and where no pair repeats the key before it, no key is there twice.
-use Rattle.std.proofs.Common.{◌≡◌, inl, ⊎_elim, Bool, true, false, List, [], ◌∷◌, refl, sym, ◌∙◌, ap, subst}
-use Rattle.std.specs.Prelude.{Option, Some, None, is_some, if◌then◌else◌, flat_map, ⊤, ◌&&◌, map as list_map}
-use Rattle.std.specs.Ordering.{nat_cmp, eq_by_cmp, is_eq, is_lt, ordering_then, ordering_reverse}
+use Rattle.std.proofs.Common.{◌≡◌, ℕ, inl, ⊎_elim, Bool, true, false, List, [], ◌∷◌, refl, sym, ◌∙◌, ap, subst}
+use Rattle.std.specs.Prelude.{ℤ, pos, Option, Some, None, is_some, if◌then◌else◌, flat_map, ⊤, ◌&&◌, map as list_map}
+use Rattle.std.specs.Ordering.{nat_cmp, int_cmp, eq_by_cmp, is_eq, is_lt, ordering_then, ordering_reverse}
 use Rattle.std.specs.Cmp.{IsTotalOrder, Equal-is, int_cmp_total, nat_cmp_total, on_total, then_total}
-use Rattle.std.specs.Cmp.Lexicographic.{lists_total, nat_list_cmp_total}
+use Rattle.std.specs.Cmp.Lexicographic.{slice_cmp, lists_total, nat_list_cmp_total}
 use Rattle.std.specs.FinMap as finite
 use Rattle.std.specs.FinMap.{FinMap, IsAntisymmetric, nat_cmp-IsAntisymmetric, get-from_entries, entries_sorted, is_sorted}
 use Rattle.std.specs.FinMap.Entries.{find, below_all}
@@ -15,7 +15,7 @@ use Rattle.rss_base.specs.TupleTypes.{value_cmp, values_cmp}
 use Rattle.rss_base.specs.declared.name.Name.{Name}
 use Rattle.rss_base.specs.declared.tid.Tid.{Tid}
 use Rattle.rss_base.specs.declared.value.Value.{Value}
-use Rattle.rss_base.specs.declared.value.Value.TheVariants.{Int, Text}
+use Rattle.rss_base.specs.declared.value.Value.TheVariants.{Int, Text, Undefined}
 use Rattle.rss_base.specs.declared.item.Item.{Item}
 use Rattle.rss_base.specs.declared.item.Item.TheVariants.{Tuple}
 use Rattle.rss_model.specs.Items.{Content, Values, is_name}
@@ -31,38 +31,51 @@ use Rattle.rss_model.proofs.Viewing.{same_key}
 
 -- ---- the order of entries
 
-values_of_total : IsTotalOrder value_cmp
-values_of_total = record {
-  antisymm = λ x y. anti x y;
-  trans = λ x y z. after_it x y z;
-  congr = λ x y z. alike x y z;
-}
+-- by what a value is, and then by the number or the text that it has
+rank : Value → ℕ
+rank Undefined = 0
+rank (Int a) = 1
+rank (Text b) = 2
+
+number_of : Value → ℤ
+number_of Undefined = pos 0
+number_of (Int a) = a
+number_of (Text b) = pos 0
+
+text_of : Value → List ℕ
+text_of Undefined = []
+text_of (Int a) = []
+text_of (Text b) = b
+
+ranked_cmp : Value → Value → Ordering
+ranked_cmp x y =
+    ordering_then (nat_cmp (rank x) (rank y))
+    (ordering_then (int_cmp (number_of x) (number_of y)) (slice_cmp nat_cmp (text_of x) (text_of y)))
+
+ranked_is : (x y : Value) → ranked_cmp x y ≡ value_cmp x y
+unfolding ranked_cmp rank number_of text_of
+ranked_is Undefined Undefined = refl
+ranked_is Undefined (Int b) = refl
+ranked_is Undefined (Text b) = refl
+ranked_is (Int a) Undefined = refl
+ranked_is (Int a) (Int b) = last (int_cmp a b)
   where
-    anti : (x y : Value) → value_cmp x y ≡ ordering_reverse (value_cmp y x)
-    anti (Int a) (Int b) = int_cmp_total.antisymm a b
-    anti (Int a) (Text b) = refl
-    anti (Text a) (Int b) = refl
-    anti (Text a) (Text b) = nat_list_cmp_total.antisymm a b
+    last : (o : Ordering) → ordering_then o Equal ≡ o
+    last Less = refl
+    last Equal = refl
+    last Greater = refl
+ranked_is (Int a) (Text b) = refl
+ranked_is (Text a) Undefined = refl
+ranked_is (Text a) (Int b) = refl
+ranked_is (Text a) (Text b) = refl
 
-    after_it : (x y z : Value) → value_cmp x y ≡ Less → value_cmp y z ≡ Less → value_cmp x z ≡ Less
-    after_it (Int a) (Int b) (Int c) h g = int_cmp_total.trans a b c h g
-    after_it (Int a) (Int b) (Text c) h g = refl
-    after_it (Int a) (Text b) (Int c) h g = absurd (cc (g))
-    after_it (Int a) (Text b) (Text c) h g = refl
-    after_it (Text a) (Int b) (Int c) h g = absurd (cc (h))
-    after_it (Text a) (Int b) (Text c) h g = absurd (cc (h))
-    after_it (Text a) (Text b) (Int c) h g = g
-    after_it (Text a) (Text b) (Text c) h g = nat_list_cmp_total.trans a b c h g
+ranked_total : IsTotalOrder ranked_cmp
+unfolding ranked_cmp
+ranked_total = then_total (on_total rank nat_cmp_total)
+    (then_total (on_total number_of int_cmp_total) (on_total text_of nat_list_cmp_total))
 
-    alike : (x y z : Value) → value_cmp x y ≡ Equal → value_cmp x z ≡ value_cmp y z
-    alike (Int a) (Int b) (Int c) h = int_cmp_total.congr a b c h
-    alike (Int a) (Int b) (Text c) h = refl
-    alike (Int a) (Text b) (Int c) h = absurd (cc (h))
-    alike (Int a) (Text b) (Text c) h = absurd (cc (h))
-    alike (Text a) (Int b) (Int c) h = absurd (cc (h))
-    alike (Text a) (Int b) (Text c) h = absurd (cc (h))
-    alike (Text a) (Text b) (Int c) h = refl
-    alike (Text a) (Text b) (Text c) h = nat_list_cmp_total.congr a b c h
+values_of_total : IsTotalOrder value_cmp
+values_of_total = subst IsTotalOrder (λ i x y. ranked_is x y i) ranked_total
 
 pub values_total : IsTotalOrder values_cmp
 values_total = lists_total values_of_total

@@ -1,5 +1,5 @@
 -- The lines of answers are short.
-use Rattle.std.proofs.Common.{◌≡◌, inl, inr, ℕ, suc, ◌+◌, ◌*◌, ◌-◌, ◌^◌, ◌<◌, ◌≤◌, List, [], ◌∷◌, ◌++◌, length, true, sym, ◌∙◌, ap, arith, length-append}
+use Rattle.std.proofs.Common.{false, Bool, ◌≡◌, inl, inr, ℕ, suc, ◌+◌, ◌*◌, ◌-◌, ◌^◌, ◌<◌, ◌≤◌, List, [], ◌∷◌, ◌++◌, length, true, sym, ◌∙◌, ap, arith, length-append}
 use Rattle.std.specs.Prelude.{Some, None, nat_le, All, Ok, Err, codes, decimal, replicate, not, ◌==◌}
 use Rattle.std.specs.List.{prefix_len}
 use Rattle.std.proofs.lemmas.List.{length-take, length-replicate}
@@ -7,10 +7,11 @@ use Rattle.std.proofs.lemmas.Fmt.{length-decimal-le, length_signed_le}
 use Rattle.rss_base.specs.declared.name.Name.{Name}
 use Rattle.rss_base.specs.declared.tid.Tid.{Tid}
 use Rattle.rss_base.specs.declared.value.Value.{Value}
-use Rattle.rss_base.specs.declared.value.Value.TheVariants.{Int, Text}
+use Rattle.rss_base.specs.declared.value.Value.TheVariants.{Int, Text, Undefined}
 use Rattle.rss_base.specs.declared.value.FieldKind.{FieldKind}
+use Rattle.rss_base.specs.declared.value.FieldForm.{FieldForm}
 use Rattle.rss_base.specs.declared.value.FieldKind.TheVariants.{Int as IntField, Text as TextField}
-use Rattle.rss_base.specs.TupleTypes.{fits, misfit, misfit_from, width, most_width, field_width, is_allowed_text, IsStorable}
+use Rattle.rss_base.specs.TupleTypes.{fits, misfit, misfit_from, most_fields, width, most_width, mark_width, kind_width, field_width, is_allowed_text, IsStorable}
 use Rattle.std.proofs.lemmas.Bool.{cases_Bool, cond-true, cond-false, leb-true, and_parts}
 use Rattle.std.proofs.lemmas.List.Sums.{sum_by-cons}
 use Rattle.rss_base.specs.declared.answer.Reply.TheVariants.{Tid as Identifier, Tuple as TupleReply, Row}
@@ -57,17 +58,24 @@ doubled_short (b ∷ bytes) = elim (cases_Bool (b == quote)) [
   | inr off ↦ omega (arith, doubled_short bytes, ap length (cond-false (b == quote) (quote ∷ quote ∷ doubled bytes) (b ∷ doubled bytes) off))
 ]
 
--- a value has at most thrice as many bytes as its field's width, with the space before it
-value_short : (field : FieldKind) (value : Value) → fits field value ≡ true → IsStorable value → 1 + length (value_text value) ≤ 3 * field_width field
-value_short IntField (Int z) is stored = omega (arith, length_signed_le 19 z (omega (arith, stored.sfits)) stored.sfits)
-value_short IntField (Text bytes) is stored = absurd (cc)
-value_short (TextField n) (Int z) is stored = absurd (cc)
-value_short (TextField n) (Text bytes) is stored =
-    let few = leb-true (length bytes) n (and_parts (nat_le (length bytes) n) (is_allowed_text bytes) is).0 in
-    omega (arith, few, doubled_short bytes, length-append (doubled bytes) (quote ∷ []))
+-- a value has at most thrice as many bytes as its field's width and four more, with the space before it
+value_short : (field : FieldForm) (value : Value) → fits field value ≡ true → IsStorable value → 1 + length (value_text value) ≤ 3 * field_width field + 4
+value_short field value is stored = by field.kind field.added value is stored
+  where
+    by : (kind : FieldKind) (added : Bool) (value : Value) → fits (record { kind = kind; added = added }) value ≡ true → IsStorable value
+        → 1 + length (value_text value) ≤ 3 * (mark_width added + kind_width kind) + 4
+    by IntField added (Int z) is stored = omega (arith, length_signed_le 19 z (omega (arith, stored.sfits)) stored.sfits)
+    by IntField added (Text bytes) is stored = absurd (cc)
+    by IntField added Undefined is stored = omega arith
+    by (TextField n) added (Int z) is stored = absurd (cc)
+    by (TextField n) added (Text bytes) is stored =
+        let few = leb-true (length bytes) n (and_parts (nat_le (length bytes) n) (is_allowed_text bytes) is).0 in
+        omega (arith, few, doubled_short bytes, length-append (doubled bytes) (quote ∷ []))
+    by (TextField n) true Undefined is stored = omega arith
+    by (TextField n) false Undefined is stored = absurd (cc)
 
 -- the first value fits, and so do the others
-pub first_fits : (k : ℕ) (field : FieldKind) (fields : List FieldKind) (value : Value) (values : List Value) → misfit_from k (field ∷ fields) (value ∷ values) ≡ None → (fits field value ≡ true) × (misfit_from (k + 1) fields values ≡ None)
+pub first_fits : (k : ℕ) (field : FieldForm) (fields : List FieldForm) (value : Value) (values : List Value) → misfit_from k (field ∷ fields) (value ∷ values) ≡ None → (fits field value ≡ true) × (misfit_from (k + 1) fields values ≡ None)
 first_fits k field fields value values is = elim (cases_Bool (fits field value)) [
   | inl on ↦ (on, sym (cond-true (fits field value) (misfit_from (k + 1) fields values) (Some k) on) ∙ is)
   | inr off ↦ absurd (some-none (sym (cond-false (fits field value) (misfit_from (k + 1) fields values) (Some k) off) ∙ is))
@@ -76,7 +84,7 @@ first_fits k field fields value values is = elim (cases_Bool (fits field value))
     some-none : Some k ≡ None → ⊥
     some-none e = cc
 
-values_short : (k : ℕ) (fields : List FieldKind) (values : List Value) → misfit_from k fields values ≡ None → All IsStorable values → length (values_text values) ≤ 3 * width fields
+pub values_short : (k : ℕ) (fields : List FieldForm) (values : List Value) → misfit_from k fields values ≡ None → All IsStorable values → length (values_text values) ≤ 3 * width fields + 4 * length fields
 values_short k [] [] fit stored = omega arith
 values_short k [] (value ∷ values) fit stored = absurd (cc)
 values_short k (field ∷ fields) [] fit stored = absurd (cc)
@@ -86,10 +94,10 @@ values_short k (field ∷ fields) (value ∷ values) fit stored =
     let rest = values_short (k + 1) fields values parts.1 (λ j d lt. stored (suc j) d (omega (arith, lt))) in
     omega (arith, first, rest, length-append (value_text value) (values_text values), sum_by-cons field_width field fields)
 
-pub tuple_line : (fields : List FieldKind) (values : List Value) → misfit fields values ≡ None → width fields ≤ most_width → All IsStorable values → length (answer_line (Ok (TupleReply values))) ≤ 8192
-tuple_line fields values fit narrow stored = omega (arith, narrow, values_short 1 fields values fit stored, length-append (values_text values) (codes "\n"))
+pub tuple_line : (fields : List FieldForm) (values : List Value) → misfit fields values ≡ None → width fields ≤ most_width → length fields ≤ most_fields → All IsStorable values → length (answer_line (Ok (TupleReply values))) ≤ 8192
+tuple_line fields values fit narrow few stored = omega (arith, narrow, few, values_short 1 fields values fit stored, length-append (values_text values) (codes "\n"))
 
 -- with its identifier before it
-pub row_line : (tid : Tid) (fields : List FieldKind) (values : List Value) → tid.page < 2 ^ 32 → tid.slot < 2 ^ 32 → misfit fields values ≡ None → width fields ≤ most_width → All IsStorable values → length (answer_line (Ok (Row tid values))) ≤ 8192
-row_line tid fields values page slot fit narrow stored =
-    omega (arith, narrow, values_short 1 fields values fit stored, tid_short tid page slot, length-append (tid_text tid ++ values_text values) (codes "\n"), length-append (tid_text tid) (values_text values))
+pub row_line : (tid : Tid) (fields : List FieldForm) (values : List Value) → tid.page < 2 ^ 32 → tid.slot < 2 ^ 32 → misfit fields values ≡ None → width fields ≤ most_width → length fields ≤ most_fields → All IsStorable values → length (answer_line (Ok (Row tid values))) ≤ 8192
+row_line tid fields values page slot fit narrow few stored =
+    omega (arith, narrow, few, values_short 1 fields values fit stored, tid_short tid page slot, length-append (tid_text tid ++ values_text values) (codes "\n"), length-append (tid_text tid) (values_text values))

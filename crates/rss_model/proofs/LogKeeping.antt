@@ -1,5 +1,5 @@
 -- What an abort, a cut and an end keep of the changes that stay.
-use Rattle.std.proofs.Common.{◌≡◌, ℕ, suc, ◌<◌, ◌≤◌, List, [], ◌∷◌, length, refl, sym, ◌∙◌, ap, subst, arith}
+use Rattle.std.proofs.Common.{◌≡◌, ℕ, suc, ◌<◌, ◌≤◌, List, [], ◌∷◌, length, refl, sym, ◌∙◌, ap, subst, arith, map}
 use Rattle.std.specs.Prelude.{Bool, true, false, not, ◌==◌, nat_le, filter}
 use Rattle.std.specs.Bool.{⊤}
 use Rattle.std.specs.List.{AllByRecursion}
@@ -7,7 +7,7 @@ use Rattle.std.proofs.lemmas.Bool.{eqb-true, ne_eqb, eq-eqb}
 use Rattle.std.proofs.lemmas.Bool.Decides.{nat_tests}
 use Rattle.rss_base.specs.declared.item.Item.{Item}
 use Rattle.rss_model.specs.Tables.{Contents, content}
-use Rattle.rss_model.specs.Changes.{Change, after, own, others}
+use Rattle.rss_model.specs.Changes.{Change, after, own, others, theirs}
 use Rattle.rss_model.specs.Records.{Listed, changes_in, is_by, own_in, others_in, is_cut, cut}
 use Rattle.rss_model.specs.Changes.{Chained}
 use Rattle.rss_model.specs.Restart.{Lone}
@@ -16,6 +16,9 @@ use Rattle.rss_model.proofs.Surviving.{Falls}
 use Rattle.rss_model.proofs.LogLists.{by_test, by_same, false_true, filter_yes, filter_no, filter_all, all_filter, all_weaker}
 use Rattle.rss_model.proofs.LogChanging.{NotAt, by_item, put_here, put_other, after_off, after_frame}
 use Rattle.rss_model.proofs.LogRedoing.{Below, below_more, all_changes, all_listed}
+use Rattle.rss_model.specs.EngineLogs.{stamp_of}
+use Rattle.rss_model.specs.Steps.{stamp_by}
+use Rattle.rss_model.specs.Meter.{Stamp}
 
 -- ---- a part of the changes
 
@@ -167,3 +170,12 @@ cut_place t n at (l ∷ ls) falls (older _ _ rest) =
     by_test (is_by t l)
     (λ e. simp (e, f, g) (cut_place t n at ls falls.1 rest))
     (λ e. simp e (ap (λ (k : List Change). l.change ∷ k) (cut_place t n at ls falls.1 rest)))
+
+-- ---- stamps
+
+-- those of what the others changed
+pub stamps_others : (t : ℕ) (ls : List Listed) → map stamp_of (others_in t ls) ≡ theirs stamp_by t (map stamp_of ls)
+stamps_others t [] = refl
+stamps_others t (l ∷ ls) = by_test (is_by t l)
+    (λ e. rw e (stamps_others t ls))
+    (λ e. rw e (ap (λ (ss : List Stamp). stamp_of l ∷ ss) (stamps_others t ls)))

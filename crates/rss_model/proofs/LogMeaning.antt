@@ -17,6 +17,8 @@ use Rattle.rss_model.specs.Changes.{Change}
 use Rattle.rss_model.specs.Records.{LogEntry}
 use Rattle.rss_model.specs.Meanings.{endless, SameDefinitions, nameless, item_told, Says, says_change, says_restore, says_end, says_abort, says_checkpoint, TellsValues, TellsPlace, Means, MeansIt}
 use Rattle.rss_model.proofs.LogLists.{by_test}
+use Rattle.rss_model.specs.Tables.{Definitions, fields_in}
+use Rattle.rss_model.specs.EngineLogs.{HaveFields}
 
 -- ---- what a number has
 
@@ -92,6 +94,13 @@ module _ (listing other : Listing) (same : SameDefinitions listing other) where
         spells = subst (λ fields. Spells (kinds fields) spelled is.values) (sym (ap (λ (relation : RelationEntry). relation.fields) there.2)) is.spells;
         is = is.is;
       }
+
+  -- relations have their fields by their names
+  pub fields_kept : (definitions : Definitions) → HaveFields listing definitions → HaveFields other definitions
+  fields_kept definitions fields number relation at =
+      let there = same_numbered (with_count 0) other.relations listing.relations number relation (sym same.relations) at in
+      ap (fields_in definitions) (sym (ap (λ (relation : RelationEntry). relation.name) there.2))
+      ∙ fields number there.0 there.1 ∙ ap (λ (relation : RelationEntry). relation.fields) there.2
 
   place_same : {number : ℕ} {parent : Option Tid} {child : Tid} {left : Option Tid} {off on : Option Content} → TellsPlace listing number parent child left off on → TellsPlace other number parent child left off on
   place_same {number = number} is =

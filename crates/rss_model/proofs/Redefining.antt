@@ -13,12 +13,12 @@ use Rattle.std.proofs.lemmas.Bool.{true≢false, leb-true, leb-false}
 use Rattle.std.proofs.lemmas.Option.{same_Some}
 use Rattle.std.proofs.lemmas.List.Sums.{sum_by-cons}
 use Rattle.rss_base.specs.Sizes.{segments, relations_most, images_most, links_most, roles_most}
-use Rattle.rss_base.specs.Names.{IsName}
-use Rattle.rss_base.specs.TupleTypes.{kinds, width, most_width, key_width, most_key_width, are_kinds, field_names}
+use Rattle.rss_base.specs.Names.{IsName, AreApart}
+use Rattle.rss_base.specs.TupleTypes.{AreFields, kinds, width, most_width, key_width, most_key_width, are_kinds, field_names}
 use Rattle.rss_base.specs.declared.name.Name.{Name}
 use Rattle.rss_base.specs.declared.tid.Tid.{Tid}
 use Rattle.rss_base.specs.declared.value.Value.{Value}
-use Rattle.rss_base.specs.declared.value.FieldKind.{FieldKind}
+use Rattle.rss_base.specs.declared.value.FieldForm.{FieldForm}
 use Rattle.rss_base.specs.declared.field.FieldDef.{FieldDef}
 use Rattle.rss_base.specs.declared.refusal.Refusal.TheVariants.{TransactionsOpen, Duplicate}
 use Rattle.rss_base.specs.declared.item.Item.TheVariants.{Tuple, Chain}
@@ -31,7 +31,7 @@ use Rattle.rss_model.specs.Images.{image_list, repeated, is_key, key_of, key_kin
 use Rattle.rss_model.specs.Fits.{RelationFits, ImageFits, LinkFits, PathsFit, DefinitionsFit, IsLive, Fits, is_field_of}
 use Rattle.rss_model.specs.Meter.{is_in_segment, relations_in}
 use Rattle.rss_model.specs.Machine.{State}
-use Rattle.rss_model.specs.Defining.{defined, with_definitions, with_image, relation_def, image_def, link_def, DefinesNames, if_any_open, is_segment, is_relation, is_image, is_link, has_twice, has_image, is_image_of, has_link, holds_tuples, is_in_most_links, relations_of_link, if_repeated, if_link_holds_tuples, fields_now}
+use Rattle.rss_model.specs.Defining.{defined, with_definitions, with_image, originals, relation_def, image_def, link_def, DefinesNames, if_any_open, is_segment, is_relation, is_image, is_link, has_twice, has_image, is_image_of, has_link, holds_tuples, is_in_most_links, relations_of_link, if_repeated, if_link_holds_tuples, fields_now}
 use Rattle.rss_model.specs.Refusals.{tests, refusal}
 use Rattle.rss_model.proofs.Codes.{name_total, name_apart}
 use Rattle.rss_model.proofs.Contents.{tied}
@@ -307,7 +307,7 @@ live_defined {tables = tables} fit relation tid lives =
     let of = fit.tuples relation tid held.0 held.1 in
     by (map.get tables.definitions.relations relation) of.defined
   where
-    by : {fields : List FieldKind} (found : Option RelationDef) → option_map (λ (r : RelationDef). kinds r.fields) found ≡ Some fields → is_some found ≡ true
+    by : {fields : List FieldForm} (found : Option RelationDef) → option_map (λ (r : RelationDef). kinds r.fields) found ≡ Some fields → is_some found ≡ true
     by None is = none_some is
     by (Some relation) is = refl
 
@@ -349,6 +349,28 @@ module _ {slots : ℕ} {tables : Tables} (fit : Fits slots tables) (definitions 
     only = fit.only;
   }
 
+-- ---- fields as they are made
+
+-- they have their names
+original_names : (fields : List FieldDef) → field_names (originals fields) ≡ field_names fields
+original_names [] = refl
+original_names (field ∷ fields) = ap (λ (names : List Name). field.name ∷ names) (original_names fields)
+
+original_fields : (fields : List FieldDef) (field : FieldDef) → In field (originals fields) → field.added ≡ false
+original_fields [] field is = absurd is
+original_fields (first ∷ fields) field (inl same) = sym (ap (λ (f : FieldDef). f.added) same)
+original_fields (first ∷ fields) field (inr is) = original_fields fields field is
+
+-- a relation may have them by their kinds, their width and their names
+pub originals_fit : (fields : List FieldDef) → are_kinds (kinds (originals fields)) ≡ true → width (kinds (originals fields)) ≤ most_width → All IsName (field_names fields) → has_twice (field_names fields) ≡ false → AreFields (originals fields)
+originals_fit fields formed narrow named once = record {
+  formed = formed;
+  narrow = narrow;
+  names = subst (All IsName) (sym (original_names fields)) named;
+  apart = subst AreApart (sym (original_names fields)) (apart_once (field_names fields) once);
+  original = all_of (λ field. field.added ≡ false) (originals fields) (original_fields fields);
+}
+
 -- ---- what the tests say
 
 closed_of : (state : State) → if_any_open state ≡ None → state.marks ≡ map.empty
@@ -359,16 +381,16 @@ closed_of state none = empty_of_len state.marks (len-entries state.marks ∙ by 
     by (e ∷ es) is = absurd (cc (is))
 
 -- nothing is open where a call defines
-pub none_open : (state : State) (call : Call) (definitions : Definitions) → refusal state call ≡ None → defined call state.base.definitions ≡ Some definitions → state.marks ≡ map.empty
-none_open state (MakeSegment name) definitions is so = closed_of state (all_none (tests state (MakeSegment name)) is 0 None (omega arith))
-none_open state (MakeRelation name segment fields) definitions is so = closed_of state (all_none (tests state (MakeRelation name segment fields)) is 0 None (omega arith))
-none_open state (MakeImage name relation unique fields) definitions is so = closed_of state (all_none (tests state (MakeImage name relation unique fields)) is 0 None (omega arith))
-none_open state (MakeLink name parent child) definitions is so = closed_of state (all_none (tests state (MakeLink name parent child)) is 0 None (omega arith))
-none_open state (DropSegment name) definitions is so = closed_of state (all_none (tests state (DropSegment name)) is 0 None (omega arith))
-none_open state (DropRelation name) definitions is so = closed_of state (all_none (tests state (DropRelation name)) is 0 None (omega arith))
-none_open state (DropImage name) definitions is so = closed_of state (all_none (tests state (DropImage name)) is 0 None (omega arith))
-none_open state (DropLink name) definitions is so = closed_of state (all_none (tests state (DropLink name)) is 0 None (omega arith))
-none_open state call definitions is so = none_some so
+pub none_open : (state : State) (call : Call) (next : Tables) → refusal state call ≡ None → defined call state.base ≡ Some next → state.marks ≡ map.empty
+none_open state (MakeSegment name) next is so = closed_of state (all_none (tests state (MakeSegment name)) is 0 None (omega arith))
+none_open state (MakeRelation name segment fields) next is so = closed_of state (all_none (tests state (MakeRelation name segment fields)) is 0 None (omega arith))
+none_open state (MakeImage name relation unique fields) next is so = closed_of state (all_none (tests state (MakeImage name relation unique fields)) is 0 None (omega arith))
+none_open state (MakeLink name parent child) next is so = closed_of state (all_none (tests state (MakeLink name parent child)) is 0 None (omega arith))
+none_open state (DropSegment name) next is so = closed_of state (all_none (tests state (DropSegment name)) is 0 None (omega arith))
+none_open state (DropRelation name) next is so = closed_of state (all_none (tests state (DropRelation name)) is 0 None (omega arith))
+none_open state (DropImage name) next is so = closed_of state (all_none (tests state (DropImage name)) is 0 None (omega arith))
+none_open state (DropLink name) next is so = closed_of state (all_none (tests state (DropLink name)) is 0 None (omega arith))
+none_open state call next is so = none_some so
 
 module _ (state : State) (fit : Fits state.size.slots state.base) where
   abbrev tables : Tables
@@ -405,7 +427,13 @@ module _ (state : State) (fit : Fits state.size.slots state.base) where
       let passed = all_none (tests state (MakeRelation name segment fields)) is in
       let new = or_none (is_relation state name) (has_twice (field_names fields)) (holds_not (is_relation state name || has_twice (field_names fields)) _ (passed 2 None (omega arith))) in
       refits fit _ (relation_made fit.definitions name (relation_def segment fields) named.0
-      (record { segment = holds (is_segment state segment) _ (passed 1 None (omega arith)); fields = record { formed = holds (are_kinds (kinds fields)) _ (passed 4 None (omega arith)); narrow = leb-true (width (kinds fields)) most_width (holds (nat_le (width (kinds fields)) most_width) _ (passed 5 None (omega arith))); names = named.1; apart = apart_once (field_names fields) new.1 } })
+      (record {
+        segment = holds (is_segment state segment) _ (passed 1 None (omega arith));
+        fields = originals_fit fields
+            (holds (are_kinds (kinds (originals fields))) _ (passed 4 None (omega arith)))
+            (leb-true (width (kinds (originals fields))) most_width (holds (nat_le (width (kinds (originals fields))) most_width) _ (passed 5 None (omega arith))))
+            named.1 new.1;
+      })
       new.0 (leb-false relations_most _ (holds_not (nat_le relations_most (map.len tables.definitions.relations)) _ (passed 3 None (omega arith)))))
       (λ relation tid lives. made_other tables.definitions.relations name (relation_def segment fields) relation (λ same. true≢false (sym (live_defined fit relation tid lives) ∙ ap (λ (n : Name). is_some (map.get tables.definitions.relations n)) same ∙ new.0)))
       (λ link parent held at. refl) (λ q image at unique. inl at)
@@ -515,13 +543,13 @@ module _ (state : State) (fit : Fits state.size.slots state.base) where
           true≢false (sym (each_of (λ t. live_in tables.contents of.definition.child t ≡ true) of.tids of.members one.0 one.1) ∙ ap is_some (empty_relation of.definition.child child one.0))
 
   -- a call that defines leaves tables that fit
-  pub defined_fits : (call : Call) (definitions : Definitions) → refusal state call ≡ None → DefinesNames call → defined call state.base.definitions ≡ Some definitions → Fits state.size.slots (with_definitions definitions state.base)
-  defined_fits (MakeSegment name) definitions is names so = subst Refits (same_Some _ _ so) (make_segment name is names)
-  defined_fits (MakeRelation name segment fields) definitions is names so = subst Refits (same_Some _ _ so) (make_relation name segment fields is names)
-  defined_fits (MakeImage name relation unique fields) definitions is names so = subst Refits (same_Some _ _ so) (make_image name relation unique fields is names)
-  defined_fits (MakeLink name parent child) definitions is names so = subst Refits (same_Some _ _ so) (make_link name parent child is names)
-  defined_fits (DropSegment name) definitions is names so = subst Refits (same_Some _ _ so) (drop_segment name is)
-  defined_fits (DropRelation name) definitions is names so = subst Refits (same_Some _ _ so) (drop_relation name is)
-  defined_fits (DropImage name) definitions is names so = subst Refits (same_Some _ _ so) (drop_image name is)
-  defined_fits (DropLink name) definitions is names so = subst Refits (same_Some _ _ so) (drop_link name is)
-  defined_fits call definitions is names so = none_some so
+  pub defined_fits : (call : Call) (next : Tables) → refusal state call ≡ None → DefinesNames call → defined call state.base ≡ Some next → Fits state.size.slots next
+  defined_fits (MakeSegment name) next is names so = subst (Fits state.size.slots) (same_Some _ _ so) (make_segment name is names)
+  defined_fits (MakeRelation name segment fields) next is names so = subst (Fits state.size.slots) (same_Some _ _ so) (make_relation name segment fields is names)
+  defined_fits (MakeImage name relation unique fields) next is names so = subst (Fits state.size.slots) (same_Some _ _ so) (make_image name relation unique fields is names)
+  defined_fits (MakeLink name parent child) next is names so = subst (Fits state.size.slots) (same_Some _ _ so) (make_link name parent child is names)
+  defined_fits (DropSegment name) next is names so = subst (Fits state.size.slots) (same_Some _ _ so) (drop_segment name is)
+  defined_fits (DropRelation name) next is names so = subst (Fits state.size.slots) (same_Some _ _ so) (drop_relation name is)
+  defined_fits (DropImage name) next is names so = subst (Fits state.size.slots) (same_Some _ _ so) (drop_image name is)
+  defined_fits (DropLink name) next is names so = subst (Fits state.size.slots) (same_Some _ _ so) (drop_link name is)
+  defined_fits call next is names so = none_some so

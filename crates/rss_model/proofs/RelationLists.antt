@@ -15,8 +15,7 @@ use Rattle.rss_base.specs.declared.name.Name.{Name}
 use Rattle.rss_base.specs.declared.tid.Tid.{Tid}
 use Rattle.rss_base.specs.declared.value.Value.{Value}
 use Rattle.rss_base.specs.declared.item.Item.TheVariants.{Tuple}
-use Rattle.rss_tuple.specs.TupleSteps.{IsBelow}
-use Rattle.rss_tuple.specs.Finding.{IsAfter}
+use Rattle.rss_base.specs.Tids.{IsBelow, IsAfter}
 use Rattle.rss_model.specs.Items.{Values}
 use Rattle.rss_model.specs.Tables.{Tables, content, fields_in}
 use Rattle.rss_model.specs.Images.{Entry, entry, entry_cmp, entries_by, key_of, relation_list, next_entry}

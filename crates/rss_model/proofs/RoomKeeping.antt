@@ -13,7 +13,7 @@ use Rattle.rss_base.specs.declared.call.Call.{Call}
 use Rattle.rss_base.specs.declared.need.Mode.TheVariants.{X}
 use Rattle.rss_base.specs.declared.call.Call.TheVariants.{Insert, Fetch, Update, Delete, Connect, Disconnect, Parent, Lock}
 use Rattle.rss_model.specs.Items.{Content}
-use Rattle.rss_model.specs.Tables.{Definitions, Contents, tuple_count, is_tuple_of}
+use Rattle.rss_model.specs.Tables.{Tables, Definitions, Contents, tuple_count, is_tuple_of}
 use Rattle.rss_model.specs.Changes.{Change, maker, own, theirs, kept_to, cut_off}
 use Rattle.rss_model.specs.Locks.{Locks, granted, with_lock}
 use Rattle.rss_model.specs.Scans.{Scan, Scans, new_scan}
@@ -25,13 +25,13 @@ use Rattle.rss_model.specs.Meter.{Stamp, Meter, heap_pages, changes_of, change_s
 use Rattle.rss_model.specs.Machine.{State, now}
 use Rattle.rss_model.specs.Rules.{saved_now, room_with, goes_on, if_no_room, meter_for, meter_behind}
 use Rattle.rss_model.specs.Steps.StepBy.{refuses, begins, saves, restores, ends, aborts, inserts, fetches, updates, deletes, connects, disconnects, finds, finds_none, opens, gives, stops, closes, locks as locks_it, checkpoints, defines}
-use Rattle.rss_model.specs.Steps.{Answer, Step, refusal, redefined, keeps_locks, locked_by, own_count, with_scan, with_given, stamp_by, size_for, left_at, undone_to, changed, restored, gone, committing, ended, MayUndo}
+use Rattle.rss_model.specs.Steps.{Answer, Step, IsOver, refusal, redefined, keeps_locks, locked_by, own_count, with_scan, with_given, stamp_by, size_for, left_at, undone_to, changed, restored, gone, committing, ended, MayUndo}
 use Rattle.rss_model.specs.Kept.{AreStamps, IsMetered, Kept}
 use Rattle.rss_model.proofs.Alone.{Marks}
 use Rattle.rss_model.proofs.Counts.{one_if, counts_same, counts_put}
 use Rattle.rss_model.proofs.LogLists.{by_test}
 use Rattle.rss_model.proofs.Stamps.{later_end, theirs_and_mine}
-use Rattle.rss_model.proofs.Rooming.{one_test, heap_put}
+use Rattle.rss_model.proofs.Rooming.{one_test, lead_two}
 use Rattle.rss_model.proofs.EndKeeping.{lone_kept, end_now}
 use Rattle.rss_model.proofs.Transfer.{undo_same}
 use Rattle.rss_model.proofs.Testing.{all_none}
@@ -110,10 +110,10 @@ metered_checkpoint state metered =
 
 -- ---- a change
 
-size_some : (c : Change) → 1 ≤ change_size c
-size_some c = by c.by c.item c.old c.new
+size_some : (definitions : Definitions) (c : Change) → 1 ≤ change_size definitions c
+size_some definitions c = by c.by c.item c.old c.new
   where
-    by : (u : ℕ) (item : Item) (old new : Option Content) → 1 ≤ change_size (record { by = u; item = item; old = old; new = new })
+    by : (u : ℕ) (item : Item) (old new : Option Content) → 1 ≤ change_size definitions (record { by = u; item = item; old = old; new = new })
     by u (Segment name) old new = omega arith
     by u (Relation name) old new = omega arith
     by u (Tuple relation tid) old new = omega arith
@@ -121,11 +121,11 @@ size_some c = by c.by c.item c.old c.new
     by u (Key image values) old new = omega arith
 
 -- from a meter that says enough
-pub metered_from : (state : State) (c : Change) (over : ℕ) (locks : Locks) (meter : Meter) → Says state meter → room_with state c meter ≤ state.size.slots → over ≤ state.meter.over + 1 → IsMetered (record state { locks = locks; changes = c ∷ state.changes; meter = counted c over meter })
-metered_from state c over locks meter said room one = record {
+pub metered_from : (state : State) (c : Change) (over : ℕ) (locks : Locks) (meter : Meter) → Says state meter → room_with state c meter ≤ state.size.slots → IsOver state c over → IsMetered (record state { locks = locks; changes = c ∷ state.changes; meter = counted state.base.definitions c over meter })
+metered_from state c over locks meter said room leads = record {
   makers = λ i. c.by ∷ said.stamped i;
-  positions = (omega (arith, size_some c), said.positions);
-  heap = omega (arith, said.heap, one, heap_put state.size.slots state.base.definitions (now state).contents c.new c.item);
+  positions = (omega (arith, size_some state.base.definitions c), said.positions);
+  heap = omega (arith, said.heap, lead_two state.size.slots state.base.definitions (now state).contents c.new c.item state.meter.over over leads);
   tuples = λ relation. let held = said.tuples relation in
       let more = sum_by-cons (λ (d : Change). one_if (counts_for d.item relation)) c state.changes in
       by_test (is_tuple_of relation c.item)
@@ -138,8 +138,8 @@ metered_from state c over locks meter said room one = record {
   room = room;
 }
 
-pub metered_change : (state : State) (c : Change) (over : ℕ) (locks : Locks) → IsMetered state → if_no_room state c ≡ None → over ≤ state.meter.over + 1 → IsMetered (changed c over (record state { locks = locks }))
-metered_change state c over locks metered is one = metered_from state c over locks (meter_for state c) (says_behind state c metered) (lets_through state c is).pages one
+pub metered_change : (state : State) (c : Change) (over : ℕ) (locks : Locks) → IsMetered state → if_no_room state c ≡ None → IsOver state c over → IsMetered (changed c over (record state { locks = locks }))
+metered_change state c over locks metered is leads = metered_from state c over locks (meter_for state c) (says_behind state c metered) (lets_through state c is).pages leads
 
 -- ---- ways back, and ends
 
@@ -209,27 +209,27 @@ scan_at (Some t) call old number scan metered = metered_same metered old.marks (
 pub let_through : (old : State) (call : Call) (c : Change) → change_of old call ≡ Some c → if_full old call ≡ None → if_no_room old c ≡ None
 let_through old call c is full = sym (ap (option_and_then (if_no_room old)) is) ∙ full
 
-pub room_by : (old new : State) (call : Call) (answer : Answer) → Step old call answer new → ((definitions : Definitions) → refusal old call ≡ None → defined call old.base.definitions ≡ Some definitions → IsMetered (redefined definitions old)) → Kept old → IsMetered old → IsMetered new
+pub room_by : (old new : State) (call : Call) (answer : Answer) → Step old call answer new → ((next : Tables) → refusal old call ≡ None → defined call old.base ≡ Some next → IsMetered (redefined next old)) → Kept old → IsMetered old → IsMetered new
 room_by old _ _ _ (refuses call why is) off kept metered = left_at_it (keeps_locks why) (caller call) call old metered
 room_by old _ _ _ (begins t is) off kept metered = metered_same metered (finite.insert old.marks t []) old.locks old.scans
 room_by old _ _ _ (saves t marks is has) off kept metered = metered_same metered (finite.insert old.marks t (marks ++ own_count old t ∷ [])) old.locks old.scans
 room_by old _ _ _ (restores t save marks over is has undo) off kept metered = metered_restore old kept metered t save marks over undo
 room_by old _ _ _ (ends t is) off kept metered = metered_end old kept metered t
 room_by old _ _ _ (aborts t over is undo) off kept metered = metered_abort old kept metered t over undo
-room_by old _ _ _ (inserts t relation values tid over is free counted) off kept metered =
-    metered_change old (insertion t relation tid values) over (with_lock t (need (Tuple relation tid) X) (granted t (needs (now old) (Insert t relation values)) old.locks)) metered (all_none (tests old (Insert t relation values)) is 7 None (omega arith)) counted.one
+room_by old _ _ _ (inserts t relation values tid over is free leads) off kept metered =
+    metered_change old (insertion t relation tid values) over (with_lock t (need (Tuple relation tid) X) (granted t (needs (now old) (Insert t relation values)) old.locks)) metered (all_none (tests old (Insert t relation values)) is 7 None (omega arith)) leads
 room_by old _ _ _ (fetches t relation tid values is found) off kept metered = metered_same metered old.marks (granted t (needs (now old) (Fetch t relation tid)) old.locks) old.scans
-room_by old _ _ _ (updates t relation tid was values over is found counted) off kept metered =
+room_by old _ _ _ (updates t relation tid was values over is found leads) off kept metered =
     metered_change old (replacement t relation tid was values) over (granted t (needs (now old) (Update t relation tid values)) old.locks) metered
-    (let_through old (Update t relation tid values) (replacement t relation tid was values) (ap (λ (o : Option Content). option_map (λ (w : List Value). replacement t relation tid w values) (values_in o)) found) (all_none (tests old (Update t relation tid values)) is 6 None (omega arith))) counted.one
-room_by old _ _ _ (deletes t relation tid was over is found counted) off kept metered =
+    (let_through old (Update t relation tid values) (replacement t relation tid was values) (ap (λ (o : Option Content). option_map (λ (w : List Value). replacement t relation tid w values) (values_in o)) found) (all_none (tests old (Update t relation tid values)) is 6 None (omega arith))) leads
+room_by old _ _ _ (deletes t relation tid was over is found leads) off kept metered =
     metered_change old (deletion t relation tid was) over (granted t (needs (now old) (Delete t relation tid)) old.locks) metered
-    (let_through old (Delete t relation tid) (deletion t relation tid was) (ap (λ (o : Option Content). option_map (deletion t relation tid) (values_in o)) found) (all_none (tests old (Delete t relation tid)) is 5 None (omega arith))) counted.one
-room_by old _ _ _ (connects t link child parent spot over is counted) off kept metered =
-    metered_change old (connection old t link child parent spot) over (granted t (needs (now old) (Connect t link child parent spot)) old.locks) metered (all_none (tests old (Connect t link child parent spot)) is 7 None (omega arith)) counted.one
-room_by old _ _ _ (disconnects t link child item over is found counted) off kept metered =
+    (let_through old (Delete t relation tid) (deletion t relation tid was) (ap (λ (o : Option Content). option_map (deletion t relation tid) (values_in o)) found) (all_none (tests old (Delete t relation tid)) is 5 None (omega arith))) leads
+room_by old _ _ _ (connects t link child parent spot over is leads) off kept metered =
+    metered_change old (connection old t link child parent spot) over (granted t (needs (now old) (Connect t link child parent spot)) old.locks) metered (all_none (tests old (Connect t link child parent spot)) is 7 None (omega arith)) leads
+room_by old _ _ _ (disconnects t link child item over is found leads) off kept metered =
     metered_change old (disconnection old t item child) over (granted t (needs (now old) (Disconnect t link child)) old.locks) metered
-    (let_through old (Disconnect t link child) (disconnection old t item child) (ap (option_map (λ (i : Item). disconnection old t i child)) found) (all_none (tests old (Disconnect t link child)) is 5 None (omega arith))) counted.one
+    (let_through old (Disconnect t link child) (disconnection old t item child) (ap (option_map (λ (i : Item). disconnection old t i child)) found) (all_none (tests old (Disconnect t link child)) is 5 None (omega arith))) leads
 room_by old _ _ _ (finds t link child parent item is has under) off kept metered = metered_same metered old.marks (granted t (needs (now old) (Parent t link child)) old.locks) old.scans
 room_by old _ _ _ (finds_none t link child is none) off kept metered = metered_same metered old.marks (granted t (needs (now old) (Parent t link child)) old.locks) old.scans
 room_by old _ _ _ (opens call t number path is by along low free) off kept metered = scan_at (caller call) call old number (new_scan t path) metered
@@ -238,4 +238,4 @@ room_by old _ _ _ (stops t number scan is has next) off kept metered = metered
 room_by old _ _ _ (closes t number is) off kept metered = metered_same metered old.marks old.locks (finite.remove old.scans number)
 room_by old _ _ _ (locks_it t item exclusive is granule) off kept metered = metered_same metered old.marks (granted t (needs (now old) (Lock t item exclusive)) old.locks) old.scans
 room_by old _ _ _ (checkpoints is) off kept metered = metered_checkpoint old metered
-room_by old _ _ _ (defines call definitions is names so) off kept metered = off definitions is so
+room_by old _ _ _ (defines call next is names so) off kept metered = off next is so

@@ -1,4 +1,4 @@
--- Room for pages: each change, and each that is undone, takes one page of the heap more at most.
+-- Room for pages: each change, and each that is undone, takes two pages more at most.
 use Rattle.std.proofs.Common.{◌≡◌, ◌≢◌, inl, inr, ℕ, zero, suc, ◌+◌, ◌*◌, ◌≤◌, ◌<◌, Bool, true, false, List, [], ◌∷◌, length, refl, sym, ◌∙◌, ap, subst, arith}
 use Rattle.std.specs.Prelude.{Option, Some, None, is_some, option_map, unwrap_or, count_by, sum_by, ◌||◌, map as list_map}
 use Rattle.std.specs.List.{list_any, range_with_len}
@@ -6,6 +6,7 @@ use Rattle.std.specs.Ordering.{eq_by_cmp}
 use Rattle.std.specs.Cmp.{Equal-is}
 use Rattle.std.specs.FinMap as finite
 use Rattle.std.specs.FinMap.{entries_sorted, is_sorted}
+use Rattle.std.proofs.lemmas.List.{length-append}
 use Rattle.std.proofs.lemmas.List.Sums.{sum_by-cons}
 use Rattle.std.proofs.Math.Dec.{T}
 use Rattle.rss_base.specs.Sizes.{page_entries}
@@ -14,9 +15,10 @@ use Rattle.rss_base.specs.declared.tid.Tid.{Tid}
 use Rattle.rss_base.specs.declared.item.Item.{Item}
 use Rattle.rss_base.specs.declared.item.Item.TheVariants.{Segment, Relation, Tuple, Chain, Key}
 use Rattle.rss_model.specs.Items.{Content, name_cmp}
-use Rattle.rss_model.specs.Tables.{Definitions, Tables, Contents, put, segment_of, tuple_count, is_tuple_of}
+use Rattle.rss_model.specs.Tables.{LinkDef, Definitions, Tables, Contents, put, segment_of, tuple_count, is_tuple_of}
+use Rattle.rss_model.specs.Chains.{chain}
 use Rattle.rss_model.specs.Changes.{Change, undo, undone}
-use Rattle.rss_model.specs.Meter.{is_in_segment, relations_in, has_tuples, is_heap_page, heap_pages, changes_of, counts_for}
+use Rattle.rss_model.specs.Meter.{is_in_segment, relations_in, has_tuples, is_heap_page, heap_pages, of_relation, of_chain, coming, overfills, MayLead, changes_of, counts_for}
 use Rattle.rss_model.specs.Steps.{MayUndo}
 use Rattle.rss_model.specs.Steps.MayUndo.{none, more}
 use Rattle.rss_model.proofs.Codes.{name_total, name_apart}
@@ -79,6 +81,22 @@ module _ {V : Type 0} (f g : Name → ℕ) (p : Name) (same : (n : Name) → n �
       omega (arith, rest, one, fs, gs, sum_by-cons f e.0 (names es), sum_by-cons g e.0 (names es)))
       (λ off. omega (arith, same e.0 off, sum_near es parts.1, sum_by-cons f e.0 (names es), sum_by-cons g e.0 (names es)))
 
+-- ---- tuples that a change may make longer
+
+few_counted : {A : Type 0} (p : A → Bool) (xs : List A) → count_by p xs ≤ length xs
+few_counted p [] = omega arith
+few_counted p (x ∷ xs) = omega (arith, few_counted p xs, one_test (p x) true, sum_by-cons (λ y. one_if (p y)) x xs)
+
+one_of : (relation : Option Name) (tid : Option Tid) → length (of_relation relation tid) ≤ 1
+one_of (Some relation) (Some tid) = omega arith
+one_of (Some relation) None = omega arith
+one_of None tid = omega arith
+
+chain_two : (link : Option LinkDef) (parent comes : Option Tid) → length (of_chain link parent comes) ≤ 2
+chain_two None parent comes = omega arith
+chain_two (Some link) parent comes =
+    omega (arith, one_of (Some link.child) comes, one_of link.parent parent, length-append (of_relation (Some link.child) comes) (of_relation link.parent parent))
+
 -- ---- pages of the heap
 
 module _ (slots : ℕ) (definitions : Definitions) (a : Contents) (held : Option Content) where
@@ -109,18 +127,18 @@ module _ (slots : ℕ) (definitions : Definitions) (a : Contents) (held : Option
   abbrev pages_of : (item : Item) → Name → ℕ
   pages_of item segment = count_by (is_heap_page (with_item item) segment) (range_with_len 0 slots)
 
-  -- no tuple
-  other : (item : Item) → ((relation : Name) (tid : Tid) → Tuple relation tid ≡ item → ⊥) → heap_pages slots (record { definitions = definitions; contents = put a item held }) ≤ heap_pages slots (record { definitions = definitions; contents = a }) + 1
+  -- what is no tuple makes no page
+  other : (item : Item) → ((relation : Name) (tid : Tid) → Tuple relation tid ≡ item → ⊥) → heap_pages slots (with_item item) ≡ heap_pages slots tables
   unfolding heap_pages
   other item off =
       let all : pages_of item ≡ pages_before =
       λ i segment. count_same (is_heap_page (with_item item) segment) (is_heap_page tables segment) (range_with_len 0 slots) (λ page. page_same item segment page (λ r slot within at. off r (record { page = page; slot = slot }) at)) i in
-      omega (arith, ap (λ (f : Name → ℕ). sum_by f (finite.keys definitions.segments)) all)
+      ap (λ (f : Name → ℕ). sum_by f (finite.keys definitions.segments)) all
 
-  -- what is put makes one page more at most
-  pub heap_put : (item : Item) → heap_pages slots (record { definitions = definitions; contents = put a item held }) ≤ heap_pages slots (record { definitions = definitions; contents = a }) + 1
+  -- a tuple makes one more at most
+  tuple_put : (relation : Name) (tid : Tid) → heap_pages slots (with_item (Tuple relation tid)) ≤ heap_pages slots tables + 1
   unfolding heap_pages
-  heap_put (Tuple relation tid) = sum_near (λ segment. count_by (is_heap_page (with_item (Tuple relation tid)) segment) (range_with_len 0 slots)) (λ segment. count_by (is_heap_page tables segment) (range_with_len 0 slots)) home
+  tuple_put relation tid = sum_near (λ segment. count_by (is_heap_page (with_item (Tuple relation tid)) segment) (range_with_len 0 slots)) (λ segment. count_by (is_heap_page tables segment) (range_with_len 0 slots)) home
       (λ segment off. near_same (is_heap_page (with_item (Tuple relation tid)) segment) (is_heap_page tables segment) (λ page. page_same (Tuple relation tid) segment page (λ r slot within at. off (at_home segment (ap (segment_of tables) (sym (names_of at)) ∙ in_this segment r within)))))
       (near (is_heap_page (with_item (Tuple relation tid)) home) (is_heap_page tables home) tid.page (λ page off. page_same (Tuple relation tid) home page (λ r slot within at. off (pages_at at))) slots 0)
       (finite.entries definitions.segments) (entries_sorted definitions.segments)
@@ -139,10 +157,25 @@ module _ (slots : ℕ) (definitions : Definitions) (a : Contents) (held : Option
 
       near_same : (f g : ℕ → Bool) → ((k : ℕ) → f k ≡ g k) → count_by f (range_with_len 0 slots) ≡ count_by g (range_with_len 0 slots)
       near_same f g same = count_same f g (range_with_len 0 slots) same
-  heap_put (Segment name) = other (Segment name) (λ r t e. cc (e))
-  heap_put (Relation name) = other (Relation name) (λ r t e. cc (e))
-  heap_put (Chain link parent) = other (Chain link parent) (λ r t e. cc (e))
-  heap_put (Key image values) = other (Key image values) (λ r t e. cc (e))
+
+  -- whatever it is
+  pub heap_put : (item : Item) → heap_pages slots (with_item item) ≤ heap_pages slots tables + 1
+  heap_put (Tuple relation tid) = tuple_put relation tid
+  heap_put (Segment name) = omega (arith, other (Segment name) (λ r t e. cc (e)))
+  heap_put (Relation name) = omega (arith, other (Relation name) (λ r t e. cc (e)))
+  heap_put (Chain link parent) = omega (arith, other (Chain link parent) (λ r t e. cc (e)))
+  heap_put (Key image values) = omega (arith, other (Key image values) (λ r t e. cc (e)))
+
+  -- Pages of the heap and overflow pages rise by two together at most: a tuple makes one of each, and a chain two overflow pages.
+  pub lead_two : (item : Item) (from to : ℕ) → MayLead tables (with_item item) item from to → heap_pages slots (with_item item) + to ≤ heap_pages slots tables + from + 2
+  lead_two (Tuple relation tid) from to lead =
+      omega (arith, lead, tuple_put relation tid, few_counted (overfills tables (with_item (Tuple relation tid))) ((relation, tid) ∷ []))
+  lead_two (Chain link parent) from to lead =
+      let touches = of_chain (finite.get definitions.links link) parent (coming (chain a link parent) (chain (put a (Chain link parent) held) link parent)) in
+      omega (arith, lead, other (Chain link parent) (λ r t e. cc (e)), few_counted (overfills tables (with_item (Chain link parent))) touches, chain_two (finite.get definitions.links link) parent (coming (chain a link parent) (chain (put a (Chain link parent) held) link parent)))
+  lead_two (Segment name) from to lead = omega (arith, lead, other (Segment name) (λ r t e. cc (e)))
+  lead_two (Relation name) from to lead = omega (arith, lead, other (Relation name) (λ r t e. cc (e)))
+  lead_two (Key image values) from to lead = omega (arith, lead, other (Key image values) (λ r t e. cc (e)))
 
 -- ---- changes undone
 
@@ -151,7 +184,7 @@ pub undone_heap : (slots : ℕ) {tables : Tables} {ds : List Change} {over next 
     → heap_pages slots (record tables { contents = undone tables.contents ds }) + next ≤ heap_pages slots tables + over + 2 * length ds
 undone_heap slots none = omega arith
 undone_heap slots {tables = tables} (more {change = c} {changes = ds} lead rest) =
-    omega (arith, undone_heap slots rest, heap_put slots tables.definitions tables.contents c.old c.item, lead.one)
+    omega (arith, undone_heap slots rest, lead_two slots tables.definitions tables.contents c.old c.item _ _ lead)
 
 -- what counts of the contents one more at most where an item is put that counts, counts so many more where changes are undone
 module _ (measure : Contents → ℕ) (counts : Item → Bool) (puts : (contents : Contents) (item : Item) (held : Option Content) → measure (put contents item held) ≤ measure contents + one_if (counts item)) where

@@ -22,7 +22,7 @@ module _ (state : State) (change : Change) where
   free_behind = log_room state.size.log_pages (saved_now state)
 
   abbrev needed_behind : ℕ
-  needed_behind = log_needed change (saved_now state)
+  needed_behind = log_needed state.base.definitions change (saved_now state)
 
   made_where : (meter : Meter) → nat_le (room_with state change meter) state.size.slots ≡ true → fits_log state change meter ≡ true → MayBeMade state change meter
   made_where meter pages log = record { pages = leb-true _ _ pages; log = leb-true _ _ log }

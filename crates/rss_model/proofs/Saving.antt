@@ -30,8 +30,8 @@ one_more false few many le = le
 
 pub saves : SavingNeedsNoMore
 saves state change metered =
-    let images = sum_by-le-sum_by (pages_of_image state.base.definitions (with_change change (saved_now state)))
-    (pages_of_image state.base.definitions (with_change change state.meter)) (finite.values state.base.definitions.images)
+    let images = sum_by-le-sum_by (pages_of_image state.base.definitions (with_change state.base.definitions change (saved_now state)))
+    (pages_of_image state.base.definitions (with_change state.base.definitions change state.meter)) (finite.values state.base.definitions.images)
     (λ image. more_pages _ _ _ (one_more (counts_for change.item image.relation) ((saved_now state).traffic image.relation) (state.meter.traffic image.relation) (covers image.relation))) in
     omega (arith, images, metered.heap)
   where

@@ -135,13 +135,13 @@ no_definition : (call : Call) (t : ℕ) → caller call ≡ Some t → is_defini
 no_definition Checkpoint t by is = none_some by
 no_definition call t by is = cc
 
-defines_so : (call : Call) (before definitions : Definitions) → defined call before ≡ Some definitions → (caller call ≡ None) × (part_of_call call ≡ Defines)
-defines_so (End t) before definitions so = absurd (cc)
-defines_so call before definitions so = (cc, cc)
+defines_so : (call : Call) (before next : Tables) → defined call before ≡ Some next → (caller call ≡ None) × (part_of_call call ≡ Defines)
+defines_so (End t) before next so = absurd (cc)
+defines_so call before next so = (cc, cc)
 
 -- the tests of a definition, where nothing is open
-define_same : (s : State) (m : Meter) (call : Call) (definitions : Definitions) → defined call s.base.definitions ≡ Some definitions → s.marks ≡ finite.empty → AllSame (tests s call) (tests (shut s.size s.base m) call)
-define_same s m call definitions so closed = by call so
+define_same : (s : State) (m : Meter) (call : Call) (next : Tables) → defined call s.base ≡ Some next → s.marks ≡ finite.empty → AllSame (tests s call) (tests (shut s.size s.base m) call)
+define_same s m call next so closed = by call so
   where
     any : but_of_others (if_any_open s) ≡ but_of_others (if_any_open (shut s.size s.base m))
     any = ap (λ (marks : Marks). but_of_others (option_map TransactionsOpen (slice_get (finite.keys marks) 0))) closed
@@ -153,7 +153,7 @@ define_same s m call definitions so closed = by call so
         full true = refl
         full false = refl
 
-    by : (call : Call) → defined call s.base.definitions ≡ Some definitions → AllSame (tests s call) (tests (shut s.size s.base m) call)
+    by : (call : Call) → defined call s.base ≡ Some next → AllSame (tests s call) (tests (shut s.size s.base m) call)
     by (MakeSegment name) so = (any, (refl, (refl, tt)))
     by (MakeRelation name segment fields) so = (any, (refl, (refl, (refl, (refl, (refl, tt))))))
     by (MakeImage name relation unique fields) so = (any, (refl, (refl, (refl, (refl, (refl, (refl, (repeated unique, (room s (with_image s.base.definitions name (image_def relation unique fields)) ∙ sym (room (shut s.size s.base m) (with_image s.base.definitions name (image_def relation unique fields))), tt)))))))))
@@ -346,24 +346,24 @@ module _ {start : State} {h : List Turn} {s : State} (told : Told start h s) whe
 
   -- ---- a definition
 
-  told_define : (call : Call) (definitions : Definitions) → refusal s call ≡ None → DefinesNames call → defined call s.base.definitions ≡ Some definitions → Told start (turn_with call (Ok Done) ∷ h) (redefined definitions s)
-  told_define call definitions is names so =
-      let closed_now = none_open s call definitions is so in
-      let part = defines_so call s.base.definitions definitions so in
+  told_define : (call : Call) (next : Tables) → refusal s call ≡ None → DefinesNames call → defined call s.base ≡ Some next → Told start (turn_with call (Ok Done) ∷ h) (redefined next s)
+  told_define call next is names so =
+      let closed_now = none_open s call next is so in
+      let part = defines_so call s.base next so in
       let closed_at : (u : ℕ) → is_open s u ≡ false = λ u. not_true (is_open s u) (λ has. none_is_open s closed_now u has) in
       let empty : (u : ℕ) → stretch u (turn_with call (Ok Done) ∷ h) ≡ [] = λ u. stretch_none u (turn_with call (Ok Done)) h part.0 ∙ told.idle u (closed_at u) in
-      let kept_now = steps_keep s (redefined definitions s) call (Ok Done) (defines call definitions is names so) kept in
-      let judge : lone_refusal (shut s.size s.base told.ended.0) call ≡ None = lone_first (tests s call) (tests (shut s.size s.base told.ended.0) call) None is (tt {0}) (to_of (tests s call) (tests (shut s.size s.base told.ended.0) call) (define_same s told.ended.0 call definitions so closed_now)) in
+      let kept_now = steps_keep s (redefined next s) call (Ok Done) (defines call next is names so) kept in
+      let judge : lone_refusal (shut s.size s.base told.ended.0) call ≡ None = lone_first (tests s call) (tests (shut s.size s.base told.ended.0) call) None is (tt {0}) (to_of (tests s call) (tests (shut s.size s.base told.ended.0) call) (define_same s told.ended.0 call next so closed_now)) in
       record {
         kept = kept_now;
         ended = (
-          (redefined definitions (shut s.size s.base told.ended.0)).meter,
-          subst (λ (l : List Turn). Lone start l (redefined definitions (shut s.size s.base told.ended.0))) (sym (ap (λ (q : Part). kept_from q (turn_with call (Ok Done)) (stretch_of (caller call) h) (kept_turns h)) part.1))
-              (more (turn_with call (Ok Done)) told.ended.1 (defines call definitions judge names so)),
+          (redefined next (shut s.size s.base told.ended.0)).meter,
+          subst (λ (l : List Turn). Lone start l (redefined next (shut s.size s.base told.ended.0))) (sym (ap (λ (q : Part). kept_from q (turn_with call (Ok Done)) (stretch_of (caller call) h) (kept_turns h)) part.1))
+              (more (turn_with call (Ok Done)) told.ended.1 (defines call next judge names so)),
         );
         idle = λ u none. empty u;
-        each = λ u. subst (λ (l : List Turn). RunsAlone u l (redefined definitions s)) (sym (empty u)) (λ b m agrees free. (m, subst (λ (y : State). Lone (shut s.size (base_with (redefined definitions s) b) m) [] y) (sym (alone_shut kept_now u b m (closed_at u))) still));
-        ids = λ u. subst (λ (l : List Turn). IdsHeld u l (redefined definitions s)) (sym (empty u)) (λ relation tid none. absurd none);
+        each = λ u. subst (λ (l : List Turn). RunsAlone u l (redefined next s)) (sym (empty u)) (λ b m agrees free. (m, subst (λ (y : State). Lone (shut s.size (base_with (redefined next s) b) m) [] y) (sym (alone_shut kept_now u b m (closed_at u))) still));
+        ids = λ u. subst (λ (l : List Turn). IdsHeld u l (redefined next s)) (sym (empty u)) (λ relation tid none. absurd none);
       }
     where
       not_true : (o : Bool) → (o ≡ true → ⊥) → o ≡ false

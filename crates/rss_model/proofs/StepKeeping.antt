@@ -11,7 +11,7 @@ use Rattle.rss_base.specs.declared.item.Item.{Item}
 use Rattle.rss_base.specs.declared.need.Mode.{Mode}
 use Rattle.rss_base.specs.declared.call.Call.{Call}
 use Rattle.rss_base.specs.declared.call.Call.TheVariants.{Fetch, Parent, Lock}
-use Rattle.rss_model.specs.Tables.{Definitions, Contents, content, tuple_count}
+use Rattle.rss_model.specs.Tables.{Tables, Definitions, Contents, content, tuple_count}
 use Rattle.rss_model.specs.Changes.{Change, own, after, Chained, is_delete_of}
 use Rattle.rss_model.specs.Fits.{Fits}
 use Rattle.rss_model.specs.Locks.{claim_cmp, Locks, held}
@@ -21,7 +21,7 @@ use Rattle.rss_model.specs.Needs.{needs}
 use Rattle.rss_model.specs.Callers.{caller}
 use Rattle.rss_model.specs.Restart.{OnlyBy}
 use Rattle.rss_model.specs.Rules.{saved_now}
-use Rattle.rss_model.specs.Defining.{defined, with_definitions, DefinesNames}
+use Rattle.rss_model.specs.Defining.{defined, DefinesNames}
 use Rattle.rss_model.specs.Steps.{is_open, refusal, locked_by, keeps_locks, redefined}
 use Rattle.rss_model.specs.Steps.StepBy.{refuses, begins, saves, restores, ends, aborts, inserts, fetches, updates, deletes, connects, disconnects, finds, finds_none, opens, gives, stops, closes, locks, checkpoints, defines}
 use Rattle.rss_model.specs.Kept.{up_to, IsGuarded, Kept, StepsKeep, RestKeeps, KeptFit, EachFits, MixturesFit, FirstFindsBase, LastLeavesNow, OwnersAreAlone, StepsLeaveSize}
@@ -53,10 +53,11 @@ none_changed {state = state} kept closed = by state.changes refl
 pub none_is_open : (state : State) → state.marks ≡ finite.empty → (t : ℕ) → is_open state t ≡ true → ⊥
 none_is_open state closed t has = true≢false (sym has ∙ ap (λ (marks : FinMap nat_cmp (List ℕ)). is_some (finite.get marks t)) closed ∙ ap is_some (get-empty nat_cmp t))
 
-keeps_define : {old : State} → Kept old → (call : Call) (definitions : Definitions) → refusal old call ≡ None → DefinesNames call → defined call old.base.definitions ≡ Some definitions → Kept (redefined definitions old)
-keeps_define {old = old} kept call definitions is names so =
-    let closed = none_open old call definitions is so in
+keeps_define : {old : State} → Kept old → (call : Call) (next : Tables) → refusal old call ≡ None → DefinesNames call → defined call old.base ≡ Some next → Kept (redefined next old)
+keeps_define {old = old} kept call next is names so =
+    let closed = none_open old call next is so in
     let none = none_changed kept closed in
+    let fits = defined_fits old (base_fits old kept.fit) call next is names so in
     record {
       few = kept.few;
       few_scans = kept.few_scans;
@@ -66,11 +67,11 @@ keeps_define {old = old} kept call definitions is names so =
       scanned = λ number scan relation at along. absurd (none_is_open old closed scan.by (kept.scanners number scan at));
       along = λ number scan at. absurd (none_is_open old closed scan.by (kept.scanners number scan at));
       kinds = kept.kinds;
-      chained = kept.chained;
-      fit = λ counts. subst (λ (l : List Change). Fits old.size.slots (with_changes (with_definitions definitions old.base) (up_to counts l))) (sym none) (defined_fits old (base_fits old kept.fit) call definitions is names so);
-      guarded = all_of (IsGuarded (redefined definitions old)) old.changes (λ c is_in. absurd (subst (In c) none is_in));
+      chained = subst (Chained next.contents) (sym none) tt;
+      fit = λ counts. subst (λ (l : List Change). Fits old.size.slots (with_changes next (up_to counts l))) (sym none) fits;
+      guarded = all_of (IsGuarded (redefined next old)) old.changes (λ c is_in. absurd (subst (In c) none is_in));
       apart = kept.apart;
-      counted = kept.counted;
+      counted = λ relation. omega (arith, fits.few relation, ap (λ (l : List Change). tuple_count (after next.contents l) relation) none, ap (count_by (is_delete_of relation)) none);
     }
 
 -- ---- all steps

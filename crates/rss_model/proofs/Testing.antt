@@ -6,7 +6,7 @@ use Rattle.std.specs.List.{AllByRecursion}
 use Rattle.std.specs.FinMap as finite
 use Rattle.rss_base.specs.declared.name.Name.{Name}
 use Rattle.rss_base.specs.declared.value.Value.{Value}
-use Rattle.rss_base.specs.declared.value.FieldKind.{FieldKind}
+use Rattle.rss_base.specs.declared.value.FieldForm.{FieldForm}
 use Rattle.rss_base.specs.declared.item.Item.{Item}
 use Rattle.rss_base.specs.declared.item.Item.TheVariants.{Segment, Relation, Tuple, Chain, Key}
 use Rattle.rss_base.specs.declared.need.Need.{Need}
@@ -69,7 +69,7 @@ pub early_map : {A : Type 0} (f : A → Refusal) (o : Option A) → ((a : A) →
 early_map f None off w is = none_some is
 early_map f (Some a) off w is = ap keeps_locks (sym (same_Some _ _ is)) ∙ off a
 
-pub early_fields : (fields : Option (List FieldKind)) (values : List Value) → Early (misfit_of fields values)
+pub early_fields : (fields : Option (List FieldForm)) (values : List Value) → Early (misfit_of fields values)
 early_fields None values w is = none_some is
 early_fields (Some fields) values w is = early_map BadTuple _ (λ k. refl) w is
 

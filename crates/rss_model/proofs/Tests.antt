@@ -18,7 +18,7 @@ use Rattle.rss_base.specs.declared.refusal.Refusal.TheVariants.{NoSuch, NameTake
 use Rattle.rss_model.specs.Tables.{tuple_count}
 use Rattle.rss_model.specs.Meter.{relations_in}
 use Rattle.rss_model.specs.Machine.{State}
-use Rattle.rss_model.specs.Defining.{refused_unless, refused_if, least_open, if_any_open, is_segment, is_relation, has_twice, has_image, has_link}
+use Rattle.rss_model.specs.Defining.{originals, refused_unless, refused_if, least_open, if_any_open, is_segment, is_relation, has_twice, has_image, has_link}
 use Rattle.rss_model.specs.Steps.{first_of, tests, refusal}
 use Rattle.rss_model.proofs.Heap.{nothing}
 
@@ -109,5 +109,5 @@ module _ (state : State) (closed : least_open state ≡ None) where
       pub make_relation_many : nat_le relations_most (map.len state.base.definitions.relations) ≡ true → refusal state (MakeRelation name segment fields) ≡ Some (Limit RelationLimit)
       make_relation_many many = named ∙ refuses_at _ (refuses_if (Limit RelationLimit) many)
 
-      pub make_relation_passes : nat_le relations_most (map.len state.base.definitions.relations) ≡ false → are_kinds (kinds fields) ≡ true → nat_le (width (kinds fields)) most_width ≡ true → refusal state (MakeRelation name segment fields) ≡ None
+      pub make_relation_passes : nat_le relations_most (map.len state.base.definitions.relations) ≡ false → are_kinds (kinds (originals fields)) ≡ true → nat_le (width (kinds (originals fields))) most_width ≡ true → refusal state (MakeRelation name segment fields) ≡ None
       make_relation_passes room formed narrow = named ∙ goes_on _ (passes_if (Limit RelationLimit) room) ∙ goes_on _ (passes_unless (Limit FieldLimit) formed) ∙ goes_on _ (passes_unless (Limit WidthLimit) narrow)

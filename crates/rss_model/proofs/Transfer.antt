@@ -24,12 +24,12 @@ use Rattle.rss_model.specs.Locks.{Locks, held, Holds, granted, with_lock}
 use Rattle.rss_model.specs.Scans.{Path, RelationPath, ImagePath, LinkPath, Scan, if_by, scan_of, new_scan, number_limit, path_relation, next_of_scan, next_along, next_in_chain}
 use Rattle.rss_model.specs.Images.{entry}
 use Rattle.rss_model.specs.Meter.{Meter, MayLead}
-use Rattle.rss_model.specs.Machine.{State, now}
+use Rattle.rss_model.specs.Machine.{with_changes, State, now}
 use Rattle.rss_model.specs.Callers.{caller}
 use Rattle.rss_model.specs.Needs.{need, needs}
 use Rattle.rss_model.specs.Defining.{LocksGranule}
 use Rattle.rss_model.specs.Refusals.{Answer, tests, refusal, insertion, replacement, deletion, connection, disconnection, chain_change, link_of, has_form}
-use Rattle.rss_model.specs.Steps.{keeps_locks, locked_by, locked, left_by, IsFree, HasValues, changed, holding, MayUndo, undone_to, left_at, begun, own_count, with_save, restored, path_of, with_scan, with_given, GivesNext}
+use Rattle.rss_model.specs.Steps.{IsOver, keeps_locks, locked_by, locked, left_by, IsFree, HasValues, changed, holding, MayUndo, undone_to, left_at, begun, own_count, with_save, restored, path_of, with_scan, with_given, GivesNext}
 use Rattle.rss_model.specs.Steps.MayUndo.{none, more}
 use Rattle.rss_model.specs.Steps.StepBy.{refuses, begins, saves, restores, inserts, fetches, updates, deletes, connects, disconnects, finds, finds_none, opens, gives, stops, closes, locks}
 use Rattle.rss_model.specs.Serial.{is_of_others, lone_refusal, LoneStep}
@@ -50,12 +50,15 @@ use Rattle.rss_model.proofs.Faring.{Fares, fares_on, fares_early, After, its_rel
 use Rattle.rss_model.proofs.ScanKeeping.{its_scan}
 
 -- as many overflow pages are always possible
-same_over : (tables : Tables) (item : Item) (old new : Option Content) (over : ℕ) → MayLead tables item old new over over
-same_over tables item old new over = record { one = omega arith; only = λ off. omega arith }
+pub same_over : (before after : Tables) (item : Item) (over : ℕ) → MayLead before after item over over
+same_over before after item over = omega arith
+
+pub over_same : (state : State) (change : Change) → IsOver state change state.meter.over
+over_same state change = same_over (now state) (with_changes state.base (change ∷ state.changes)) change.item state.meter.over
 
 pub undo_same : (tables : Tables) (changes : List Change) (over : ℕ) → MayUndo tables changes over over
 undo_same tables [] over = none
-undo_same tables (c ∷ changes) over = more (same_over (record tables { contents = undo tables.contents c }) c.item c.new c.old over) (undo_same (record tables { contents = undo tables.contents c }) changes over)
+undo_same tables (c ∷ changes) over = more (same_over tables (record tables { contents = undo tables.contents c }) c.item over) (undo_same (record tables { contents = undo tables.contents c }) changes over)
 
 pub touched : (i : Item) (cs : List Change) → ((c : Change) × In c cs × (c.item ≡ i)) ⊎ ((c : Change) → In c cs → c.item ≡ i → ⊥)
 touched i [] = inr (λ c is at. is)
@@ -161,7 +164,7 @@ module _ (s : State) (kept : Kept s) (t : ℕ) (b : Contents) (m : Meter) where
       let c = replacement t relation tid was values in (
         (changed c m.over (locked (Update t relation tid values) x)).meter,
         subst (λ (y : State). LoneStep x (Update t relation tid values) (Ok Done) y) (changed_same (Update t relation tid values) c (changed c m.over (locked (Update t relation tid values) x)).meter refl (its_needs (Update t relation tid values) refl fares is agrees))
-            (updates t relation tid was values m.over (lone (Update t relation tid values) refl fares is agrees) (sym (agreed_now.items (Tuple relation tid) X hold) ∙ found) (same_over _ _ _ _ m.over)),
+            (updates t relation tid was values m.over (lone (Update t relation tid values) refl fares is agrees) (sym (agreed_now.items (Tuple relation tid) X hold) ∙ found) (over_same x c)),
       )
 
   pub transfer_delete : (relation : Name) (tid : Tid) (was : List Value) (over : ℕ) → refusal s (Delete t relation tid) ≡ None → HasValues s relation tid was
@@ -173,7 +176,7 @@ module _ (s : State) (kept : Kept s) (t : ℕ) (b : Contents) (m : Meter) where
       let c = deletion t relation tid was in (
         (changed c m.over (locked (Delete t relation tid) x)).meter,
         subst (λ (y : State). LoneStep x (Delete t relation tid) (Ok Done) y) (changed_same (Delete t relation tid) c (changed c m.over (locked (Delete t relation tid) x)).meter refl (its_needs (Delete t relation tid) refl fares is agrees))
-            (deletes t relation tid was m.over (lone (Delete t relation tid) refl fares is agrees) (sym (agreed_now.items (Tuple relation tid) X hold) ∙ found) (same_over _ _ _ _ m.over)),
+            (deletes t relation tid was m.over (lone (Delete t relation tid) refl fares is agrees) (sym (agreed_now.items (Tuple relation tid) X hold) ∙ found) (over_same x c)),
       )
 
   -- an identifier that is free now is so where the transaction is alone
@@ -201,7 +204,7 @@ module _ (s : State) (kept : Kept s) (t : ℕ) (b : Contents) (m : Meter) where
             (state_is s.size x.base later (sym (own_here t c s.changes refl)) refl (ap (with_lock t (need (Tuple relation tid) X)) (lone_locks (Insert t relation values) refl) ∙ locks_set t (need (Tuple relation tid) X ∷ []) (granted t (needs (now s) (Insert t relation values)) s.locks)) refl)
             (inserts t relation values tid m.over (lone (Insert t relation values) refl fares is agrees)
             (free_alone relation tid free either (λ d d_in mine. agreed_now.items d.item X (holds_more t (needs (now s) (Insert t relation values)) s.locks t d.item X (subst (λ (u : ℕ). Holds s.locks u d.item X) mine (guards_of kept d d_in).item))))
-            (same_over _ _ _ _ m.over)),
+            (over_same x c)),
       )
 
   -- ---- links
@@ -218,7 +221,7 @@ module _ (s : State) (kept : Kept s) (t : ℕ) (b : Contents) (m : Meter) where
         subst (λ (y : State). LoneStep x (Connect t link child parent spot) (Ok Done) y)
             (ap (λ (c : Change). state_of s.size x.base later (c ∷ own t s.changes) x.marks (granted t (needs (now x) (Connect t link child parent spot)) (only_locks t s.locks)) x.scans) same
             ∙ changed_same (Connect t link child parent spot) (connection s t link child parent spot) later refl refl)
-            (connects t link child parent spot m.over (lone (Connect t link child parent spot) refl fares is agrees) (same_over _ _ _ _ m.over)),
+            (connects t link child parent spot m.over (lone (Connect t link child parent spot) refl fares is agrees) (over_same x (connection x t link child parent spot))),
       )
 
   link_there : (link : Name) (given : Bool) → has_form (link_of s link) given ≡ true → (d : LinkDef) × (link_of s link ≡ Some d)
@@ -238,7 +241,7 @@ module _ (s : State) (kept : Kept s) (t : ℕ) (b : Contents) (m : Meter) where
         subst (λ (y : State). LoneStep x (Disconnect t link child) (Ok Done) y)
             (ap (λ (c : Change). state_of s.size x.base later (c ∷ own t s.changes) x.marks (granted t (needs (now x) (Disconnect t link child)) (only_locks t s.locks)) x.scans) same
             ∙ changed_same (Disconnect t link child) (disconnection s t item child) later refl (its_needs (Disconnect t link child) refl fares is agrees))
-            (disconnects t link child item m.over (lone (Disconnect t link child) refl fares is agrees) (sym its_chain_with ∙ found) (same_over _ _ _ _ m.over)),
+            (disconnects t link child item m.over (lone (Disconnect t link child) refl fares is agrees) (sym its_chain_with ∙ found) (over_same x (disconnection x t item child))),
       )
 
   parent_with : (link : Name) (child : Tid) → refusal s (Parent t link child) ≡ None → Base (granted t (needs (now s) (Parent t link child)) s.locks) → chain_with (now s).contents link child ≡ chain_with seen link child

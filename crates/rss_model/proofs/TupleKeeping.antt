@@ -7,7 +7,7 @@ use Rattle.std.proofs.lemmas.Option.{same_Some}
 use Rattle.rss_base.specs.declared.name.Name.{Name}
 use Rattle.rss_base.specs.declared.tid.Tid.{Tid}
 use Rattle.rss_base.specs.declared.value.Value.{Value}
-use Rattle.rss_base.specs.declared.value.FieldKind.{FieldKind}
+use Rattle.rss_base.specs.declared.value.FieldForm.{FieldForm}
 use Rattle.rss_base.specs.declared.item.Item.TheVariants.{Relation, Tuple, Key}
 use Rattle.rss_base.specs.declared.need.Need.{Need}
 use Rattle.rss_base.specs.declared.need.Mode.{Mode}
@@ -38,7 +38,7 @@ use Rattle.rss_model.proofs.LogLists.{none_some}
 use Rattle.rss_model.proofs.Putting.{values_of}
 
 -- the tuple fits the fields of its relation
-fits_of : (fields : Option (List FieldKind)) (values : List Value) → is_some fields ≡ true → misfit_of fields values ≡ None → (of : List FieldKind) × (fields ≡ Some of) × (misfit of values ≡ None)
+fits_of : (fields : Option (List FieldForm)) (values : List Value) → is_some fields ≡ true → misfit_of fields values ≡ None → (of : List FieldForm) × (fields ≡ Some of) × (misfit of values ≡ None)
 fits_of None values some is = absurd (cc (some))
 fits_of (Some fields) values some is = (fields, refl, none (misfit fields values) is)
   where

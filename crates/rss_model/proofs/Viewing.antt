@@ -7,7 +7,7 @@ use Rattle.std.specs.Cmp.{Equal-is}
 use Rattle.rss_base.specs.declared.name.Name.{Name}
 use Rattle.rss_base.specs.declared.tid.Tid.{Tid}
 use Rattle.rss_base.specs.declared.value.Value.{Value}
-use Rattle.rss_base.specs.declared.value.Value.TheVariants.{Int, Text}
+use Rattle.rss_base.specs.declared.value.Value.TheVariants.{Int, Text, Undefined}
 use Rattle.rss_base.specs.declared.item.Item.{Item}
 use Rattle.rss_base.specs.declared.item.Item.TheVariants.{Tuple as TupleItem, Chain as ChainItem, Key as KeyItem}
 use Rattle.rss_base.specs.declared.need.Mode.{Mode}
@@ -38,6 +38,11 @@ value_apart (Int a) (Int b) tie = ap Int (int_cmp-IsAntisymmetric a b tie)
 value_apart (Int a) (Text b) tie = absurd (cc (tie))
 value_apart (Text a) (Int b) tie = absurd (cc (tie))
 value_apart (Text a) (Text b) tie = ap Text (slice_cmp-IsAntisymmetric nat_cmp-IsAntisymmetric a b tie)
+value_apart Undefined Undefined tie = refl
+value_apart Undefined (Int b) tie = absurd (cc (tie))
+value_apart Undefined (Text b) tie = absurd (cc (tie))
+value_apart (Int a) Undefined tie = absurd (cc (tie))
+value_apart (Text a) Undefined tie = absurd (cc (tie))
 
 pub same_key : (a b : List Value) → is_key a b ≡ true → a ≡ b
 same_key a b is = slice_cmp-IsAntisymmetric value_apart a b ((Equal-is (values_cmp a b)).0 is)

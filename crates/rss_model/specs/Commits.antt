@@ -1,25 +1,20 @@
 -- What a run of the machine commits.
-use Rattle.std.specs.Prelude.{◌≡◌, true, List, Option, Some, None, Ok, All, ⊤}
+use Rattle.std.specs.Prelude.{◌≡◌, true, List, unwrap_or, Ok, All, ⊤}
 use Rattle.rss_base.specs.declared.call.Call.{Call}
 use Rattle.rss_base.specs.declared.call.Call.TheVariants.{End}
 use Rattle.rss_base.specs.declared.answer.Reply.TheVariants.{Ok as Done}
-use Rattle.rss_model.specs.Tables.{Definitions, Tables}
+use Rattle.rss_model.specs.Tables.{Tables}
 use Rattle.rss_model.specs.Changes.{own}
 use Rattle.rss_model.specs.Machine.{State, with_changes}
 use Rattle.rss_model.specs.Callers.{is_definition}
-use Rattle.rss_model.specs.Defining.{defined, with_definitions}
+use Rattle.rss_model.specs.Defining.{defined}
 use Rattle.rss_model.specs.Steps.{Answer, Step}
 use Rattle.rss_model.specs.Runs.{Turn, Run}
-
--- these tables with what a call defines, if it defines anything
-abbrev pub with_defined : Tables → Option Definitions → Tables
-with_defined tables None = tables
-with_defined tables (Some definitions) = with_definitions definitions tables
 
 -- The committed tables after a call: where it ended a transaction, with that transaction's own changes; where it was a definition, with that; else as they were.
 abbrev pub committed : State → Call → Answer → Tables
 committed old (End t) (Ok Done) = with_changes old.base (own t old.changes)
-committed old call (Ok Done) = with_defined old.base (defined call old.base.definitions)
+committed old call (Ok Done) = unwrap_or (defined call old.base) old.base
 committed old call answer = old.base
 
 -- the calls that commit, where they are answered

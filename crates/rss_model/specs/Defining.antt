@@ -1,5 +1,5 @@
 -- The calls that define, and those that take a definition away: what they do, and what they are refused for.
-use Rattle.std.specs.Prelude.{ℕ, ◌||◌, Bool, true, false, if◌then◌else◌, nat_le, List, [], ◌∷◌, length, Option, Some, None, is_some, option_map, slice_get, All, ⊤}
+use Rattle.std.specs.Prelude.{ℕ, map as list_map, ◌||◌, Bool, true, false, if◌then◌else◌, nat_le, List, [], ◌∷◌, length, Option, Some, None, is_some, option_map, slice_get, All, ⊤}
 use Rattle.std.specs.List.{list_any, list_all}
 use Rattle.std.specs.Ordering.{eq_by_cmp}
 use Rattle.std.specs.FinMap as map
@@ -31,41 +31,60 @@ use Rattle.rss_model.specs.Rules.{if_no_room_for}
 abbrev pub with_definitions : Definitions → Tables → Tables
 with_definitions definitions tables = record tables { definitions = definitions }
 
+-- the fields of a relation as it is made: none was added to it
+abbrev pub as_original : FieldDef → FieldDef
+as_original field = record field { added = false }
+
+abbrev pub originals : List FieldDef → List FieldDef
+originals fields = list_map as_original fields
+
 -- a relation, an image and a link as they are made
 abbrev pub relation_def : Name → List FieldDef → RelationDef
-relation_def segment fields = record { segment = segment; fields = fields }
+relation_def segment fields = record { segment = segment; fields = originals fields }
 
 abbrev pub image_def : Name → Bool → List Name → ImageDef
 image_def relation is_unique fields = record { relation = relation; is_unique = is_unique; fields = fields }
 
 abbrev pub link_def : Option Name → Name → LinkDef
-link_def parent child = record { parent = parent; child = child }
+link_def parent child = record { parent = parent; child = child; late = false }
 
 abbrev pub with_image : Definitions → Name → ImageDef → Definitions
 with_image definitions name image =
     record definitions { images = map.insert definitions.images name image }
 
--- what is defined after a call, where it is one that defines
-abbrev pub defined : Call → Definitions → Option Definitions
-defined (MakeSegment name) definitions =
-    Some (record definitions { segments = map.insert definitions.segments name tt })
-defined (MakeRelation name segment fields) definitions =
-    Some (record definitions {
-      relations = map.insert definitions.relations name (relation_def segment fields);
-    })
-defined (MakeImage name relation is_unique fields) definitions =
-    Some (with_image definitions name (image_def relation is_unique fields))
-defined (MakeLink name parent child) definitions =
-    Some (record definitions { links = map.insert definitions.links name (link_def parent child) })
-defined (DropSegment name) definitions =
-    Some (record definitions { segments = map.remove definitions.segments name })
-defined (DropRelation name) definitions =
-    Some (record definitions { relations = map.remove definitions.relations name })
-defined (DropImage name) definitions =
-    Some (record definitions { images = map.remove definitions.images name })
-defined (DropLink name) definitions =
-    Some (record definitions { links = map.remove definitions.links name })
-defined call definitions = None
+-- the committed tables after a call, where it is one that defines
+abbrev pub defined : Call → Tables → Option Tables
+defined (MakeSegment name) tables =
+    Some (with_definitions (record tables.definitions {
+      segments = map.insert tables.definitions.segments name tt;
+    }) tables)
+defined (MakeRelation name segment fields) tables =
+    Some (with_definitions (record tables.definitions {
+      relations = map.insert tables.definitions.relations name (relation_def segment fields);
+    }) tables)
+defined (MakeImage name relation is_unique fields) tables =
+    Some (with_definitions (with_image tables.definitions name (image_def relation is_unique fields)) tables)
+defined (MakeLink name parent child) tables =
+    Some (with_definitions (record tables.definitions {
+      links = map.insert tables.definitions.links name (link_def parent child);
+    }) tables)
+defined (DropSegment name) tables =
+    Some (with_definitions (record tables.definitions {
+      segments = map.remove tables.definitions.segments name;
+    }) tables)
+defined (DropRelation name) tables =
+    Some (with_definitions (record tables.definitions {
+      relations = map.remove tables.definitions.relations name;
+    }) tables)
+defined (DropImage name) tables =
+    Some (with_definitions (record tables.definitions {
+      images = map.remove tables.definitions.images name;
+    }) tables)
+defined (DropLink name) tables =
+    Some (with_definitions (record tables.definitions {
+      links = map.remove tables.definitions.links name;
+    }) tables)
+defined call tables = None
 
 -- ---- what a caller sees to
 
@@ -242,8 +261,8 @@ definition_tests state (MakeRelation name segment fields) =
     ∷ unless_segment state segment
     ∷ refused_if (is_relation state name || has_twice (field_names fields)) NameTaken
     ∷ if_relations_used_up state
-    ∷ refused_unless (are_kinds (kinds fields)) (Limit FieldLimit)
-    ∷ refused_unless (nat_le (width (kinds fields)) most_width) (Limit WidthLimit)
+    ∷ refused_unless (are_kinds (kinds (originals fields))) (Limit FieldLimit)
+    ∷ refused_unless (nat_le (width (kinds (originals fields))) most_width) (Limit WidthLimit)
     ∷ []
 definition_tests state (DropSegment name) =
     if_any_open state

@@ -1,11 +1,12 @@
 -- The log of an engine, and how the machine's state is tied to it and to the tables of the last checkpoint.
-use Rattle.std.specs.Prelude.{◌≡◌, ℕ, ◌+◌, true, List, [], ◌∷◌, ◌++◌, length, map, count_by, All}
+use Rattle.std.specs.Prelude.{◌≡◌, ℕ, ◌+◌, true, List, [], ◌∷◌, ◌++◌, length, map, count_by, All, Some}
 use Rattle.rss_base.specs.declared.name.Name.{Name}
 use Rattle.rss_base.specs.declared.log_record.LogRecord.{LogRecord}
 use Rattle.rss_base.specs.declared.log_record.LogRecord.TheVariants as records
 use Rattle.rss_base.specs.LogRecords.{ArePlaced, record_size}
-use Rattle.rss_base.specs.Listings.{Listing}
-use Rattle.rss_model.specs.Tables.{Contents, Tables}
+use Rattle.rss_base.specs.Listings.{Listing, relation_at}
+use Rattle.rss_base.specs.declared.relation.RelationEntry.{RelationEntry}
+use Rattle.rss_model.specs.Tables.{Definitions, Contents, Tables, fields_in}
 use Rattle.rss_model.specs.Changes.{Change, after}
 use Rattle.rss_model.specs.Meter.{Stamp, Meter}
 use Rattle.rss_model.specs.Machine.{State}
@@ -123,10 +124,17 @@ pub record IsMeterOf (at_checkpoint : Contents) (log : EngineLog) (meter : Meter
 
 -- ---- ties
 
+-- the relations that are listed have their fields by their names
+abbrev pub HaveFields : Listing → Definitions → Type 0
+HaveFields listing definitions =
+    (number : ℕ) (relation : RelationEntry) → relation_at listing number ≡ Some relation
+    → fields_in definitions relation.name ≡ relation.fields
+
 -- The machine's state is tied to the log of an engine over the tables of the last checkpoint.
 pub record TiesState (listing : Listing) (at_checkpoint : Tables) (log : EngineLog) (state : State) : Type 0 where
   pub ties : Ties state.base.contents state.changes at_checkpoint.contents (entries_of log)
   pub definitions : state.base.definitions ≡ at_checkpoint.definitions
+  pub fields : HaveFields listing at_checkpoint.definitions
   pub fits : FitsAlong state.size.slots at_checkpoint
       (base_at at_checkpoint.contents (as_entries log.older)) (lists_saved log)
       (newer (entries_of log))

@@ -10,7 +10,7 @@ use Rattle.rss_base.specs.declared.value.Value.{Value}
 use Rattle.rss_base.specs.declared.item.Item.{Item}
 use Rattle.rss_base.specs.declared.item.Item.TheVariants.{Segment, Relation, Tuple, Chain, Key}
 use Rattle.rss_base.specs.declared.field.FieldDef.{FieldDef}
-use Rattle.rss_base.specs.declared.value.FieldKind.{FieldKind}
+use Rattle.rss_base.specs.declared.value.FieldForm.{FieldForm}
 use Rattle.rss_model.specs.Items.{Content, Values}
 use Rattle.rss_model.specs.Tables.{RelationDef, ImageDef, LinkDef, Definitions, Tables, content, fields_of, fields_in, segment_of, tuple_count}
 use Rattle.rss_model.specs.Images.{field_number, key_kinds, KeysFit}
@@ -76,7 +76,7 @@ pub record DefinitionsFit (definitions : Definitions) : Type 0 where
 
 -- what an item holds is a tuple that fits these fields
 pub record IsTupleOf (tables : Tables) (relation : Name) (held : Content) : Type 0 where
-  pub fields : List FieldKind
+  pub fields : List FieldForm
   pub values : List Value
   pub defined : fields_of tables relation ≡ Some fields
   pub tuple : held ≡ Values values

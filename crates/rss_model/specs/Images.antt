@@ -9,7 +9,7 @@ use Rattle.rss_base.specs.Prefixes.{is_tid}
 use Rattle.rss_base.specs.declared.name.Name.{Name}
 use Rattle.rss_base.specs.declared.tid.Tid.{Tid}
 use Rattle.rss_base.specs.declared.value.Value.{Value}
-use Rattle.rss_base.specs.declared.value.FieldKind.{FieldKind}
+use Rattle.rss_base.specs.declared.value.FieldForm.{FieldForm}
 use Rattle.rss_base.specs.declared.field.FieldDef.{FieldDef}
 use Rattle.rss_base.specs.declared.item.Item.{Item}
 use Rattle.rss_base.specs.declared.item.Item.TheVariants.{Segment, Relation, Tuple, Chain, Key}
@@ -35,7 +35,7 @@ abbrev pub key_of : List FieldDef → List Name → List Value → List Value
 key_of fields names values = chosen (numbers_of fields names) values
 
 -- the kinds of these fields
-abbrev pub key_kinds : List FieldDef → List Name → List FieldKind
+abbrev pub key_kinds : List FieldDef → List Name → List FieldForm
 key_kinds fields names = kinds (chosen (numbers_of fields names) fields)
 
 -- ---- entries

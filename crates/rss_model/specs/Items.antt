@@ -6,7 +6,7 @@ use Rattle.std.specs.declared.cmp.Ordering.{Ordering}
 use Rattle.rss_base.specs.declared.name.Name.{Name}
 use Rattle.rss_base.specs.declared.tid.Tid.{Tid}
 use Rattle.rss_base.specs.declared.value.Value.{Value}
-use Rattle.rss_base.specs.declared.value.Value.TheVariants.{Int, Text}
+use Rattle.rss_base.specs.declared.value.Value.TheVariants.{Int, Text, Undefined}
 use Rattle.rss_base.specs.declared.item.Item.{Item}
 use Rattle.rss_base.specs.declared.item.Item.TheVariants.{Segment, Relation, Tuple, Chain, Key}
 
@@ -21,6 +21,7 @@ abbrev pub value_code : Value → List ℕ
 value_code (Int (pos n)) = 0 ∷ n ∷ []
 value_code (Int (negsuc n)) = 1 ∷ n ∷ []
 value_code (Text bytes) = 2 ∷ length bytes ∷ bytes
+value_code Undefined = 3 ∷ []
 
 abbrev pub values_code : List Value → List ℕ
 values_code [] = []

@@ -35,16 +35,12 @@ pub mod Records
 pub mod Restart
 pub mod Recovers
 pub mod Meanings
-pub mod Store
 pub mod ReplyText
 pub mod Variables
 pub mod Script
 pub mod Forms
 pub mod Generator
 pub mod Plays
-pub mod Turns
 pub mod Costs
-pub mod Calls
 pub mod Ties
 pub mod EngineLogs
-pub mod LogLaws

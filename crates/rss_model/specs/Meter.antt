@@ -1,21 +1,20 @@
 -- The meter: what the rules read that keep room for all pages and for the log.
-use Rattle.std.specs.Prelude.{◌≡◌, ℕ, ◌+◌, ◌-◌, ◌*◌, ◌/◌, ◌<◌, ◌≤◌, ◌==◌, Bool, false, is_some, min, if◌then◌else◌, List, [], ◌∷◌, length, filter, count_by, sum_by, Option, Some, None, option_map, unwrap_or}
+use Rattle.std.specs.Prelude.{ℕ, ◌+◌, ◌-◌, ◌*◌, ◌/◌, ◌≤◌, ◌==◌, ◌&&◌, Bool, false, not, nat_lt, is_some, min, if◌then◌else◌, List, [], ◌∷◌, ◌++◌, length, filter, find, count_by, sum_by, Option, Some, None, option_map, unwrap_or}
 use Rattle.std.specs.List.{list_any, range_with_len}
 use Rattle.std.specs.Ordering.{eq_by_cmp}
 use Rattle.std.specs.FinMap as map
-use Rattle.rss_base.specs.Sizes.{page_entries, system_pages, piece_bytes, largest_checkpoint}
-use Rattle.rss_base.specs.TupleTypes.{tuple_bytes, key_width}
+use Rattle.rss_base.specs.Sizes.{page_entries, system_pages, piece_bytes, largest_checkpoint, bodies_room}
+use Rattle.rss_base.specs.TupleTypes.{kinds, tuple_bytes, key_width}
 use Rattle.rss_base.specs.Nodes.{node_least}
-use Rattle.rss_base.specs.Prefixes.{block_size, Member, Child, Parent}
+use Rattle.rss_base.specs.Prefixes.{Part, Outside, Member, Child, Parent, block_size}
 use Rattle.rss_base.specs.declared.name.Name.{Name}
 use Rattle.rss_base.specs.declared.tid.Tid.{Tid}
 use Rattle.rss_base.specs.declared.item.Item.{Item}
-use Rattle.rss_base.specs.declared.item.Item.TheVariants.{Tuple}
-use Rattle.rss_page.specs.Slotted.{bodies_room}
+use Rattle.rss_base.specs.declared.item.Item.TheVariants.{Segment, Relation, Tuple, Chain, Key}
 use Rattle.rss_model.specs.Items.{Content, Values, Tuples, name_cmp, is_name, is_tuple_of}
 use Rattle.rss_model.specs.Tables.{LinkDef, ImageDef, Definitions, Contents, Tables, content, fields_in, segment_of, tuple_count}
 use Rattle.rss_model.specs.Images.{key_kinds}
-use Rattle.rss_model.specs.Chains.{is_parent_relation}
+use Rattle.rss_model.specs.Chains.{chain, stands_in, is_parent_relation}
 use Rattle.rss_model.specs.Changes.{Change}
 
 -- the position of a change's record in the log, and the transaction that made it
@@ -76,70 +75,102 @@ heap_pages slots tables =
 
 -- ---- pages that overfill
 
--- how many bytes the block of a link has in a tuple of a relation
+-- which part the tuples of a relation have in a link
+abbrev pub part_below : Option Name → Part
+part_below None = Member
+part_below (Some parent) = Child
+
+abbrev pub part_by : Name → LinkDef → Part
+part_by relation link =
+    if is_name relation link.child then part_below link.parent
+    else (if is_parent_relation link relation then Parent else Outside)
+
+-- how many bytes the block of a link has in each of them: a late link has none there
 abbrev pub block_of_link : Name → LinkDef → ℕ
-block_of_link relation link =
-    if is_name relation link.child then size_below link.parent
-    else (if is_parent_relation link relation then block_size Parent else 0)
-  where
-    size_below : Option Name → ℕ
-    size_below None = block_size Member
-    size_below (Some parent) = block_size Child
+block_of_link relation link = block_size (if link.late then Outside else part_by relation link)
 
 -- how many bytes the blocks of all its links have
 abbrev pub blocks_size : Definitions → Name → ℕ
 blocks_size definitions relation = sum_by (block_of_link relation) (map.values definitions.links)
 
--- how many bytes the values of a tuple take
-abbrev pub values_size : Content → ℕ
-values_size (Values values) = length (tuple_bytes values)
-values_size (Tuples tids) = 0
+-- how many bytes the values of a relation's tuple take
+abbrev pub values_size : Definitions → Name → Content → ℕ
+values_size definitions relation (Values values) =
+    length (tuple_bytes (kinds (fields_in definitions relation)) values)
+values_size definitions relation (Tuples tids) = 0
 
 -- how many bytes a tuple takes on its page: its relation's number, its blocks, and its values
 abbrev pub body_size : Definitions → Name → Content → ℕ
-body_size definitions relation held = 1 + blocks_size definitions relation + values_size held
+body_size definitions relation held =
+    1 + blocks_size definitions relation + values_size definitions relation held
 
-abbrev pub held_size : Definitions → Name → Option Content → ℕ
-held_size definitions relation held = unwrap_or (option_map (body_size definitions relation) held) 0
+-- how many bytes the tuple takes that has this identifier, if there is one
+abbrev pub held_size : Tables → Name → Tid → ℕ
+held_size tables relation tid =
+    unwrap_or (option_map (body_size tables.definitions relation)
+    (content tables.contents (Tuple relation tid))) 0
 
 -- how many bytes the tuples of a relation take that have an identifier on this page
 unfoldable pub bytes_of : Tables → ℕ → Name → ℕ
 bytes_of tables page relation =
-    sum_by (λ slot. held_size tables.definitions relation
-    (content tables.contents (Tuple relation (record { page = page; slot = slot }))))
+    sum_by (λ slot. held_size tables relation (record { page = page; slot = slot }))
     (range_with_len 0 page_entries)
 
 -- how many bytes all tuples of a segment take that do
 abbrev pub bytes_on : Tables → Name → ℕ → ℕ
 bytes_on tables segment page = sum_by (bytes_of tables page) (relations_in tables segment)
 
--- What an item held becomes new or longer, and in these tables, which have it so, the page of its identifier has no room for all of its tuples.
-pub record Overfills (tables : Tables) (item : Item) (old new : Option Content) : Type 0 where
-  pub relation : Name
-  pub tid : Tid
-  pub segment : Name
-  pub is : item ≡ Tuple relation tid
-  pub grows : held_size tables.definitions relation old < held_size tables.definitions relation new
-  pub stands : segment_of tables relation ≡ Some segment
-  pub beyond : bodies_room < bytes_on tables segment tid.page
+-- The tuples whose bodies a change of an item may make new or longer: its own; or the one that comes into the chain, and the chain's parent.
+abbrev pub of_relation : Option Name → Option Tid → List (Name × Tid)
+of_relation (Some relation) (Some tid) = (relation, tid) ∷ []
+of_relation relation tid = []
 
--- After an item has become new in these tables, there is one overflow page more at most, and only where it overfills its page.
-pub record MayLead (tables : Tables) (item : Item) (old new : Option Content) (before after : ℕ) : Type 0 where
-  pub one : after ≤ before + 1
-  pub only : (Overfills tables item old new → ⊥) → after ≤ before
+abbrev pub of_chain : Option LinkDef → Option Tid → Option Tid → List (Name × Tid)
+of_chain None parent coming = []
+of_chain (Some link) parent coming = of_relation (Some link.child) coming ++ of_relation link.parent parent
+
+-- the tuple that comes into a chain
+abbrev pub coming : List Tid → List Tid → Option Tid
+coming before after = find (λ tid. not (stands_in tid before)) after
+
+abbrev pub touched : Tables → Tables → Item → List (Name × Tid)
+touched before after (Segment name) = []
+touched before after (Relation name) = []
+touched before after (Tuple relation tid) = (relation, tid) ∷ []
+touched before after (Chain link parent) =
+    of_chain (map.get after.definitions.links link) parent
+    (coming (chain before.contents link parent) (chain after.contents link parent))
+touched before after (Key image values) = []
+
+-- the page of an identifier has no room for all tuples of the segment that have one there
+abbrev pub is_beyond : Tables → Option Name → ℕ → Bool
+is_beyond tables None page = false
+is_beyond tables (Some segment) page = nat_lt bodies_room (bytes_on tables segment page)
+
+-- the tuple takes more bytes than before, and its page has no room for all
+abbrev pub overfills : Tables → Tables → Name × Tid → Bool
+overfills before after tuple =
+    nat_lt (held_size before tuple.0 tuple.1) (held_size after tuple.0 tuple.1)
+    && is_beyond after (segment_of after tuple.0) tuple.1.page
+
+-- After a change of an item there is at most one overflow page more for each tuple by which a page is overfilled.
+abbrev pub MayLead : Tables → Tables → Item → ℕ → ℕ → Type 0
+MayLead before after item from to =
+    to ≤ from + count_by (overfills before after) (touched before after item)
 
 -- ---- records of the log
 
 -- how many bytes the record of a change has: that of a tuple has the values that it tells, and that of a chain three identifiers
-abbrev pub told_size : Option Content → ℕ
-told_size None = 0
-told_size (Some held) = 2 + values_size held
+abbrev pub told_size : Definitions → Name → Option Content → ℕ
+told_size definitions relation None = 0
+told_size definitions relation (Some held) = 2 + values_size definitions relation held
 
-abbrev pub change_size : Change → ℕ
-change_size change = size_for change.item
+abbrev pub change_size : Definitions → Change → ℕ
+change_size definitions change = size_for change.item
   where
     size_for : Item → ℕ
-    size_for (Tuple relation tid) = 12 + told_size change.old + told_size change.new
+    size_for (Tuple relation tid) =
+        12 + told_size definitions relation change.old + told_size definitions relation change.new
     size_for other = 24
 
 abbrev pub restore_size : ℕ
@@ -211,12 +242,12 @@ with_traffic item traffic relation =
     if counts_for item relation then record { entries = (traffic relation).entries; surviving = (traffic relation).surviving; since = (traffic relation).since + 1 }
     else traffic relation
 
-abbrev pub counted : Change → ℕ → Meter → Meter
-counted change over meter = record meter {
+abbrev pub counted : Definitions → Change → ℕ → Meter → Meter
+counted definitions change over meter = record meter {
   since = meter.since + 1;
   traffic = with_traffic change.item meter.traffic;
   stamps = record { by = change.by; at = meter.end } ∷ meter.stamps;
-  end = meter.end + change_size change;
+  end = meter.end + change_size definitions change;
   over = over;
 }
 

@@ -5,7 +5,7 @@ use Rattle.std.specs.FinMap as finite
 use Rattle.rss_base.specs.declared.name.Name.{Name}
 use Rattle.rss_base.specs.declared.tid.Tid.{Tid}
 use Rattle.rss_base.specs.declared.value.Value.{Value}
-use Rattle.rss_base.specs.declared.value.FieldKind.{FieldKind}
+use Rattle.rss_base.specs.declared.value.FieldForm.{FieldForm}
 use Rattle.rss_base.specs.declared.spot.Spot.{Spot}
 use Rattle.rss_base.specs.declared.item.Item.{Item}
 use Rattle.rss_base.specs.declared.item.Item.TheVariants.{Segment as SegmentItem, Relation as RelationItem, Tuple as TupleItem, Chain as ChainItem, Key as KeyItem}
@@ -42,7 +42,7 @@ Answer = Result Reply Refusal
 abbrev pub transaction_limit : ℕ
 transaction_limit = 32
 
-abbrev pub misfit_of : Option (List FieldKind) → List Value → Option Refusal
+abbrev pub misfit_of : Option (List FieldForm) → List Value → Option Refusal
 misfit_of None values = None
 misfit_of (Some fields) values = option_map BadTuple (misfit fields values)
 

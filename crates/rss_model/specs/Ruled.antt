@@ -2,7 +2,7 @@
 use Rattle.std.specs.Prelude.{◌≡◌, ◌↔◌, ℕ, ◌+◌, ◌<◌, ◌≤◌, List, [], ◌∷◌, Some, None}
 use Rattle.rss_base.specs.Sizes.{log_pages_least, largest_checkpoint}
 use Rattle.rss_base.specs.declared.call.Call.{Call}
-use Rattle.rss_model.specs.Tables.{Definitions}
+use Rattle.rss_model.specs.Tables.{Tables}
 use Rattle.rss_model.specs.Changes.{Change, own}
 use Rattle.rss_model.specs.Locks.{Locks}
 use Rattle.rss_model.specs.Meter.{Meter, change_size, restore_size, end_size, checkpoint_size, changers, log_room, counted}
@@ -17,7 +17,7 @@ use Rattle.rss_model.specs.Kept.{IsMetered, HasLogRoom, Kept}
 -- It may be made from this meter: there are as many slots as may be needed, and its record fits with what is owed behind it.
 pub record MayBeMade (state : State) (change : Change) (meter : Meter) : Type 0 where
   pub pages : room_with state change meter ≤ state.size.slots
-  pub log : log_needed change meter ≤ log_room state.size.log_pages meter
+  pub log : log_needed state.base.definitions change meter ≤ log_room state.size.log_pages meter
 
 -- Also behind a checkpoint, more slots may be needed than there are.
 pub record IsFull (state : State) (change : Change) (slots needed : ℕ) : Type 0 where
@@ -30,7 +30,7 @@ pub record IsLogFull (state : State) (change : Change) (free needed : ℕ) : Typ
   pub off : MayBeMade state change state.meter → ⊥
   pub pages : room_with state change (saved_now state) ≤ state.size.slots
   pub free_is : free ≡ log_room state.size.log_pages (saved_now state)
-  pub needed_is : needed ≡ log_needed change (saved_now state)
+  pub needed_is : needed ≡ log_needed state.base.definitions change (saved_now state)
   pub beyond : free < needed
 
 -- where each verdict comes
@@ -45,7 +45,7 @@ IsRuled state change (NoLogRoom free needed) = IsLogFull state change free neede
 abbrev pub ruled : Change → ℕ → State → State
 ruled change over state = record state {
   changes = change ∷ state.changes;
-  meter = counted change over (meter_behind state change);
+  meter = counted state.base.definitions change over (meter_behind state change);
 }
 
 -- ---- room
@@ -118,9 +118,9 @@ EndsKeepRooms = (state : State) (t : ℕ) → Kept state → HasBothRooms state 
 
 -- and so does a definition that isn't refused
 abbrev pub DefinitionsKeepRooms : Type 0
-DefinitionsKeepRooms = (state : State) (call : Call) (definitions : Definitions) → Kept state → IsMetered state
+DefinitionsKeepRooms = (state : State) (call : Call) (tables : Tables) → Kept state → IsMetered state
     → log_pages_least ≤ state.size.log_pages → refusal state call ≡ None → DefinesNames call
-    → defined call state.base.definitions ≡ Some definitions → HasBothRooms (redefined definitions state)
+    → defined call state.base ≡ Some tables → HasBothRooms (redefined tables state)
 
 -- and so does each step of each call
 abbrev pub StepsKeepRooms : Type 0
@@ -130,7 +130,7 @@ StepsKeepRooms = (old new : State) (call : Call) (answer : Answer) → Step old 
 -- Before each record is appended, the log has room for it: for that of a change from the meter that the rule says,
 abbrev pub ChangesFitLog : Type 0
 ChangesFitLog = (state : State) (change : Change) → refusal_by (ruling state change) ≡ None
-    → HasRoomForRecord state (meter_behind state change) (change_size change)
+    → HasRoomForRecord state (meter_behind state change) (change_size state.base.definitions change)
 
 -- for that of a way back and of an end, where there is one,
 abbrev pub WaysBackFitLog : Type 0

@@ -8,8 +8,8 @@ use Rattle.rss_model.specs.Meter.{Meter, change_size, owed, log_room, room_numbe
 use Rattle.rss_model.specs.Machine.{State, now}
 
 -- the meter with a change more; how many overflow pages there are doesn't matter to the rules
-abbrev pub with_change : Change → Meter → Meter
-with_change change meter = counted change meter.over meter
+abbrev pub with_change : Definitions → Change → Meter → Meter
+with_change definitions change meter = counted definitions change meter.over meter
 
 -- the meter as if a checkpoint were taken now
 abbrev pub saved_now : State → Meter
@@ -19,17 +19,20 @@ saved_now state = checkpointed state.size.slots (now state) state.changes state.
 
 -- how many slots may be needed with a change more, from a checkpoint on
 abbrev pub room_with : State → Change → Meter → ℕ
-room_with state change meter = room_number state.base.definitions (with_change change meter)
+room_with state change meter =
+    room_number state.base.definitions (with_change state.base.definitions change meter)
 
 -- ---- the log rule
 
 -- how many bytes of the log a change needs, with what is owed after it
-abbrev pub log_needed : Change → Meter → ℕ
-log_needed change meter = change_size change + owed (with_change change meter).stamps
+abbrev pub log_needed : Definitions → Change → Meter → ℕ
+log_needed definitions change meter =
+    change_size definitions change + owed (with_change definitions change meter).stamps
 
 -- its record fits
 abbrev pub fits_log : State → Change → Meter → Bool
-fits_log state change meter = nat_le (log_needed change meter) (log_room state.size.log_pages meter)
+fits_log state change meter =
+    nat_le (log_needed state.base.definitions change meter) (log_room state.size.log_pages meter)
 
 -- ---- what comes of a change
 
@@ -51,7 +54,8 @@ after_saving state change =
     if nat_lt state.size.slots (room_with state change (saved_now state))
     then NoRoom state.size.slots (room_with state change (saved_now state))
     else (if fits_log state change (saved_now state) then SavesFirst
-    else NoLogRoom (log_room state.size.log_pages (saved_now state)) (log_needed change state.meter))
+    else NoLogRoom (log_room state.size.log_pages (saved_now state))
+    (log_needed state.base.definitions change state.meter))
 
 -- A change goes on where it may; else it is asked what a checkpoint would help.
 abbrev pub ruling : State → Change → Verdict

@@ -6,7 +6,7 @@ use Rattle.rss_base.specs.TupleTypes.{most_fields, is_kind}
 use Rattle.rss_base.specs.declared.name.Name.{Name}
 use Rattle.rss_base.specs.declared.tid.Tid.{Tid}
 use Rattle.rss_base.specs.declared.value.Value.{Value}
-use Rattle.rss_base.specs.declared.value.Value.TheVariants.{Int, Text}
+use Rattle.rss_base.specs.declared.value.Value.TheVariants.{Int, Text, Undefined}
 use Rattle.rss_base.specs.declared.field.FieldDef.{FieldDef}
 use Rattle.rss_base.specs.Names.{IsName}
 use Rattle.rss_model.specs.Spellings.{space, name_text, tid_text, value_text, field_text}
@@ -127,16 +127,18 @@ IsMode word exclusive = word ≡ mode_text exclusive
 abbrev pub IsProper : Value → Type 0
 IsProper (Int z) = FitsSigned w64 z
 IsProper (Text bytes) = ⊤
+IsProper Undefined = ⊤
 
 pub record IsValue (word : List ℕ) (value : Value) : Type 0 where
   pub spelled : word ≡ value_text value
   pub proper : IsProper value
 
--- a field of a relation: its name and its kind
+-- an original field of a relation: its name and its kind
 pub record IsField (word : List ℕ) (field : FieldDef) : Type 0 where
   pub spelled : word ≡ field_text field
   pub is_name : IsName field.name
   pub kind : is_kind field.kind ≡ true
+  pub original : field.added ≡ false
 
 -- each word stands for the item at its place
 abbrev pub StandFor : {A : Type 0} → (List ℕ → A → Type 0) → List (List ℕ) → List A → Type 0

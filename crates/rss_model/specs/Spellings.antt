@@ -4,7 +4,7 @@ use Rattle.std.specs.Fmt.{signed_decimal}
 use Rattle.rss_base.specs.declared.name.Name.{Name}
 use Rattle.rss_base.specs.declared.tid.Tid.{Tid}
 use Rattle.rss_base.specs.declared.value.Value.{Value}
-use Rattle.rss_base.specs.declared.value.Value.TheVariants.{Int, Text}
+use Rattle.rss_base.specs.declared.value.Value.TheVariants.{Int, Text, Undefined}
 use Rattle.rss_base.specs.declared.value.FieldKind.{FieldKind}
 use Rattle.rss_base.specs.declared.value.FieldKind.TheVariants.{Int as IntField, Text as TextField}
 use Rattle.rss_base.specs.declared.field.FieldDef.{FieldDef}
@@ -27,10 +27,11 @@ abbrev pub doubled : List ℕ → List ℕ
 doubled [] = []
 doubled (b ∷ bytes) = if b == quote then quote ∷ quote ∷ doubled bytes else b ∷ doubled bytes
 
--- a number without leading zeros, or a text between quotes
+-- a number without leading zeros, a text between quotes, or the word for what is undefined
 abbrev pub value_text : Value → List ℕ
 value_text (Int z) = signed_decimal z
 value_text (Text bytes) = quote ∷ (doubled bytes ++ quote ∷ [])
+value_text Undefined = codes "undefined"
 
 -- the kind of a field: a number, or a text of at most so many bytes
 abbrev pub field_kind_text : FieldKind → List ℕ

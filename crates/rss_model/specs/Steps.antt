@@ -14,7 +14,7 @@ use Rattle.rss_base.specs.declared.answer.Reply.TheVariants.{Ok as Done, Tid as 
 use Rattle.rss_base.specs.declared.refusal.Refusal.{Refusal}
 use Rattle.rss_base.specs.declared.refusal.Refusal.TheVariants.{NoTuple, Duplicate, Connected, NotConnected}
 use Rattle.rss_model.specs.Items.{Values, parent_of}
-use Rattle.rss_model.specs.Tables.{Definitions, Tables, content, fields_of, segment_of}
+use Rattle.rss_model.specs.Tables.{Tables, content, fields_of, segment_of}
 use Rattle.rss_model.specs.Chains.{chain_with}
 use Rattle.rss_model.specs.Images.{Entry}
 use Rattle.rss_model.specs.Fits.{IsIdentifier}
@@ -26,7 +26,7 @@ use Rattle.rss_model.specs.Machine.{State, with_changes, now}
 use Rattle.rss_model.specs.Callers.{caller}
 use Rattle.rss_model.specs.Needs.{need, needs}
 use Rattle.rss_model.specs.Rules.{meter_for, saved_now}
-use Rattle.rss_model.specs.Defining.{defined, with_definitions, DefinesNames, LocksGranule}
+use Rattle.rss_model.specs.Defining.{defined, DefinesNames, LocksGranule}
 pub use Rattle.rss_model.specs.Refusals.{Answer, transaction_limit, is_open, misfit_of, first_of, tuple_change, insertion, deletion, replacement, connection, disconnection, unless_open, unless_defined, admission, value_admission, used_tuples, if_used_up, relations_beside, is_free, unless_free, unless_live, if_full, tests, refusal}
 unfoldable pub use Rattle.rss_model.specs.Refusals.{some_free}
 
@@ -78,14 +78,13 @@ HasValues state relation tid values =
 abbrev pub changed : Change → ℕ → State → State
 changed change over state = record state {
   changes = change ∷ state.changes;
-  meter = counted change over (meter_for state change);
+  meter = counted state.base.definitions change over (meter_for state change);
 }
 
 -- how many there may be after it
 abbrev pub IsOver : State → Change → ℕ → Type 0
 IsOver state change over =
-    MayLead (with_changes state.base (change ∷ state.changes)) change.item change.old change.new
-    state.meter.over over
+    MayLead (now state) (with_changes state.base (change ∷ state.changes)) change.item state.meter.over over
 
 -- a new tuple is its maker's alone
 abbrev pub holding : ℕ → Item → State → State
@@ -97,7 +96,7 @@ holding t item state = record state { locks = with_lock t (need item X) state.lo
 pub data MayUndo : Tables → List Change → ℕ → ℕ → Type 0 where
   none : {tables : Tables} {over : ℕ} → MayUndo tables [] over over
   more : {tables : Tables} {change : Change} {changes : List Change} {over mid next : ℕ}
-      → MayLead (record tables { contents = undo tables.contents change }) change.item change.new change.old over mid
+      → MayLead tables (record tables { contents = undo tables.contents change }) change.item over mid
       → MayUndo (record tables { contents = undo tables.contents change }) changes mid next
       → MayUndo tables (change ∷ changes) over next
 
@@ -180,11 +179,11 @@ pub record GivesNext (state : State) (scan : Scan) (given : Entry) (values : Lis
 
 -- ---- definitions
 
--- the definitions and the committed tables with them, behind a checkpoint
-abbrev pub redefined : Definitions → State → State
-redefined definitions state = record state {
-  base = with_definitions definitions state.base;
-  meter = checkpointed state.size.slots (with_definitions definitions state.base) state.changes state.meter;
+-- these committed tables, behind a checkpoint of them
+abbrev pub redefined : Tables → State → State
+redefined tables state = record state {
+  base = tables;
+  meter = checkpointed state.size.slots tables state.changes state.meter;
 }
 
 -- A step, where this tells what a call is refused for. The machine leaves open which free identifier, which number of a scan and how many overflow pages come.
@@ -257,9 +256,9 @@ pub data StepBy (judge : State → Call → Option Refusal) (old : State) : Call
       → StepBy judge old (Lock t item exclusive) (Ok Done) (locked (Lock t item exclusive) old)
   checkpoints : judge old Checkpoint ≡ None
       → StepBy judge old Checkpoint (Ok Done) (record old { meter = saved_now old })
-  defines : (call : Call) (definitions : Definitions) → judge old call ≡ None → DefinesNames call
-      → defined call old.base.definitions ≡ Some definitions
-      → StepBy judge old call (Ok Done) (redefined definitions old)
+  defines : (call : Call) (tables : Tables) → judge old call ≡ None → DefinesNames call
+      → defined call old.base ≡ Some tables
+      → StepBy judge old call (Ok Done) (redefined tables old)
 
 abbrev pub Step : State → Call → Answer → State → Type 0
 Step = StepBy refusal

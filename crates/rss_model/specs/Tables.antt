@@ -5,7 +5,7 @@ use Rattle.std.specs.FinMap.{FinMap}
 use Rattle.rss_base.specs.declared.name.Name.{Name}
 use Rattle.rss_base.specs.declared.item.Item.{Item}
 use Rattle.rss_base.specs.declared.field.FieldDef.{FieldDef}
-use Rattle.rss_base.specs.declared.value.FieldKind.{FieldKind}
+use Rattle.rss_base.specs.declared.value.FieldForm.{FieldForm}
 use Rattle.rss_base.specs.TupleTypes.{kinds}
 use Rattle.rss_model.specs.Items.{Content, item_cmp, name_cmp}
 pub use Rattle.rss_model.specs.Items.{is_tuple_of}
@@ -23,10 +23,11 @@ pub record ImageDef : Type 0 where
   pub is_unique : Bool
   pub fields : List Name
 
--- a link: chains of tuples of one relation, each under a tuple of another where there is a parent
+-- A link: chains of tuples of one relation, each under a tuple of another where there is a parent. A late one takes room in a tuple only while it says something of it.
 pub record LinkDef : Type 0 where
   pub parent : Option Name
   pub child : Name
+  pub late : Bool
 
 -- of each kind, what is defined by its name
 pub record Definitions : Type 0 where
@@ -56,8 +57,20 @@ pub record Tables : Type 0 where
   pub definitions : Definitions
   pub contents : Contents
 
+-- tables in which nothing is defined
+abbrev pub no_tables : Tables
+no_tables = record {
+  definitions = record {
+    segments = map.empty;
+    relations = map.empty;
+    images = map.empty;
+    links = map.empty;
+  };
+  contents = map.empty;
+}
+
 -- the fields of a relation, and its segment, where there is one of this name
-abbrev pub fields_of : Tables → Name → Option (List FieldKind)
+abbrev pub fields_of : Tables → Name → Option (List FieldForm)
 fields_of tables name =
     option_map (λ relation. kinds relation.fields) (map.get tables.definitions.relations name)
 

@@ -1,5 +1,5 @@
-// The laws of the machine, and of the log.
-ghost use Rattle.std.specs.Prelude.{length, not, ◌≡◌, ◌++◌, ◌<◌, ◌≤◌, ℕ, List, [], ◌∷◌};
+// The laws of the machine, and of a log over it.
+ghost use Rattle.std.specs.Prelude.{length, not, ◌≡◌, ◌++◌, ◌<◌, ◌≤◌, ℕ, List, ◌∷◌};
 ghost use Rattle.std.specs.List.{AllByRecursion};
 ghost use Rattle.rss_model.specs.Tables.{Contents, content};
 ghost use Rattle.rss_model.specs.Changes.{Change, after, own, others};
@@ -7,7 +7,6 @@ ghost use Rattle.rss_model.specs.Records.{Placed, Listed, Changed, Restore, End,
 ghost use Rattle.rss_model.specs.Restart.{OnlyBy};
 ghost use Rattle.rss_model.specs.Recovers.{NamesLists, Recovers, Restarts};
 ghost use Rattle.rss_model.specs.Ties.{Undoes, Log, records, lists, pushed, saved, checkpointed, cut_own, StandsAt, Ties};
-ghost use Rattle.rss_model.specs.Store.{OpensOnce, OpeningsAreMetered, OpeningsHaveRoom, RestartRecovers, StoresFit, StoresHaveRoom};
 ghost use Rattle.rss_model.specs.Changes.{UndoTurnsBack};
 ghost use Rattle.rss_model.specs.Commits.{CommitsOnly, OpenLeavesNoTrace};
 ghost use Rattle.rss_model.specs.Kept.{SavingNeedsNoMore, StepsKeep, RestKeeps, StepsLeaveSize, KeptFit, EachFits, MixturesFit, FirstFindsBase, LastLeavesNow, OwnersAreAlone, StepsKeepRoom};
@@ -16,8 +15,6 @@ ghost use Rattle.rss_model.specs.Ruled.{ChangesFitLog, WaysBackFitLog, EndsFitLo
 ghost use Rattle.rss_model.specs.Locks.{JoinDisagrees};
 ghost use Rattle.rss_model.specs.Steps.{FreeIsFound};
 ghost use Rattle.rss_model.specs.Serial.{IsSerial};
-ghost use Rattle.rss_model.specs.LogLaws.{ChangeTies, RestoreTies, AbortTies, ChangesTurnBack, EndTies, CheckpointTies};
-ghost use Rattle.rss_model.specs.LogLaws.{RestTies, RestartTies, DiskHasLog, DiskHasRoom};
 ghost use Rattle.rss_model.specs.Spares.{NumberLeavesRoom, SparesTwo, MakesOnceMore, times_in_restart, times_in_session};
 ghost use Rattle.rss_model.specs.Spares.{SessionBegins, SessionChanges, SessionGoesBack, SessionForgets, SparesForAll, SparesForNext};
 
@@ -27,24 +24,6 @@ ghost use Rattle.rss_model.specs.Spares.{SessionBegins, SessionChanges, SessionG
 pub fn what_commits()
     ensures commits { CommitsOnly }
     ensures no_trace { OpenLeavesNoTrace }
-{}
-
-/// Pages open to one size and one set of tables at most.
-pub fn stores_open_once()
-    ensures { OpensOnce }
-{}
-
-/// The tables of a store fit.
-pub fn tables_fit()
-    ensures { StoresFit }
-{}
-
-/// Each page of a store has room in two slots. A store that was opened has room for all pages and
-/// for what its log is owed, and its meter says what every step keeps.
-pub fn stores_have_room()
-    ensures stores { StoresHaveRoom }
-    ensures openings { OpeningsHaveRoom }
-    ensures metered { OpeningsAreMetered }
 {}
 
 /// Whatever step the machine makes, it keeps what is said to be kept, and so does a machine where
@@ -179,35 +158,4 @@ pub fn tables_of_now()
     ensures restore { (base : Contents) (changes : List Change) (tables : Contents) (log : Log) → Ties base changes tables log → (t first : ℕ) → Undoes base (λ l. not (is_cut t first l)) (lists log) }
     ensures place { (t n : ℕ) (ls : List Listed) → n < length (own t (changes_in ls)) → (first : ℕ) × StandsAt t n first ls }
     ensures end { (base : Contents) (changes : List Change) (tables : Contents) (log : Log) → Ties base changes tables log → (t : ℕ) → after (after base (own t changes)) (others t changes) ≡ after base changes }
-{}
-
-/// The same of a store: what restart does on the tables of its checkpoint gives those that are
-/// recovered.
-pub fn restart_of_a_store()
-    ensures { RestartRecovers }
-{}
-
-/// Each kind of step keeps the tie of the state to an engine's log, with its records, what they mean
-/// and what the meter counts of them. The log has the records of the changes that a way back undoes.
-pub fn logs_tie()
-    ensures change { ChangeTies }
-    ensures restore { RestoreTies }
-    ensures abort { AbortTies }
-    ensures turn_back { ChangesTurnBack }
-    ensures end { EndTies }
-    ensures checkpoint { CheckpointTies }
-{}
-
-/// A store that was left at rest is tied as it is opened, and any other by the checkpoint that ends
-/// its restart.
-pub fn openings_tie()
-    ensures rest { RestTies }
-    ensures restart { RestartTies }
-{}
-
-/// Where a state is tied to an engine's log, what is on the disk of it is the log of a store with the
-/// committed tables, and has room for a restart, whatever is in memory alone.
-pub fn disk_has_log()
-    ensures log { DiskHasLog }
-    ensures room { DiskHasRoom }
 {}

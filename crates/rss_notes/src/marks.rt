@@ -1,9 +1,9 @@
 // The marks of pages: whether a page is mapped, and what was noted on it.
 ghost use Rattle.std.specs.Prelude.{◌≡◌, ◌<◌, ◌≤◌, ℕ, length, IfSome};
-ghost use Rattle.rss_notes.specs.Marks.{column_at, mark_of, with_mark, note_of_mark};
+ghost use Rattle.rss_notes.specs.Marks.{column_at, mark_of, with_mark};
 
+use crate::maxima::Maxima;
 use rss_base::{PageKey, SEGMENTS, Space};
-use rss_maxima::Maxima;
 
 /// How many columns of marks there are: one for each segment's home pages and its overflow pages.
 pub(crate) const COLUMNS: usize = 16;
@@ -58,16 +58,5 @@ pub(crate) fn put_mark(columns: &mut [Maxima], key: PageKey, mark: u16)
         if number < marks.len() {
             marks.set(number, mark);
         }
-    }
-}
-
-/// What a mark tells of a note.
-pub(crate) fn note_of_mark(mark: u16) -> Option<u16>
-    ensures { result ≡ note_of_mark mark }
-{
-    if mark == UNMAPPED || mark == UNNOTED {
-        None
-    } else {
-        Some(mark - 1)
     }
 }

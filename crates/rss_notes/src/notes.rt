@@ -8,14 +8,11 @@ ghost use Rattle.rss_base.specs.declared.key.PageKey.{PageKey as Key};
 ghost use Rattle.rss_notes.specs.Marks.{told};
 ghost use Rattle.rss_notes.specs.Notes.{Marks, noted_on};
 
-use crate::marks::{COLUMNS, UNMAPPED, UNNOTED, column_at, mark_of, note_of_mark, put_mark};
+use crate::marks::{COLUMNS, UNMAPPED, UNNOTED, column_at, mark_of, put_mark};
+use crate::maxima::Maxima;
 use rss_base::{PageKey, Space};
-use rss_maxima::Maxima;
 use std::alloc::{AllocError, Global};
 use std::marker::Model;
-
-/// The greatest note.
-pub const NOTE_MOST: u16 = 65_533;
 
 /// Which home and overflow pages of a store are mapped, and the numbers that were noted on them. A
 /// key of another space changes nothing here.
@@ -88,13 +85,6 @@ impl Notes {
         if mark_of(&self.columns, key) != UNMAPPED {
             put_mark(&mut self.columns, key, number + 1);
         }
-    }
-
-    /// What was noted on a page since it was last mapped or its note forgotten.
-    pub fn note_of(&self, key: PageKey) -> Option<u16>
-        ensures { result ≡ (told self.now).notes key }
-    {
-        note_of_mark(mark_of(&self.columns, key))
     }
 
     /// The first mapped page of a segment and a space, from this number on, that has no note or one

@@ -2,7 +2,7 @@
 use Rattle.std.specs.Prelude.{◌≡◌, ◌⊎◌, ℕ, ◌+◌, ◌*◌, ◌^◌, ◌<◌, ◌≤◌, ◌==◌, if◌then◌else◌, List, [], ◌∷◌, ◌++◌, length, take, drop, map, replicate, slice_index, slice_set, sum_by}
 use Rattle.std.specs.List.{range_with_len}
 use Rattle.std.specs.Int.{w16, w32, to_be_bytes, from_be_bytes}
-use Rattle.rss_base.specs.Sizes.{page_entries, page_bytes}
+use Rattle.rss_base.specs.Sizes.{page_entries, page_bytes, bodies_room}
 use Rattle.rss_base.specs.PageMap.{space_code}
 use Rattle.rss_base.specs.declared.key.PageKey.{PageKey}
 use Rattle.rss_base.specs.declared.key.Space.TheVariants.{Home, Overflow}
@@ -15,10 +15,6 @@ use Rattle.rss_page.specs.Content.{Content, Empty, Here, Forward, body_length}
 -- where the bodies of a page begin
 abbrev pub bodies_at : ℕ
 bodies_at = 1040
-
--- how many bytes all bodies may have together
-abbrev pub bodies_room : ℕ
-bodies_room = 3056
 
 -- ---- the bytes of an entry
 

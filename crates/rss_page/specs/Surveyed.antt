@@ -1,11 +1,11 @@
 -- What one walk over the directory of a page finds.
 use Rattle.std.specs.Prelude.{◌≡◌, ◌↔◌, ℕ, ◌+◌, ◌<◌, ◌≤◌, max, Bool, true, false, ◌&&◌, if◌then◌else◌, List, length as count, take, slice_index_or, Some, unwrap_or, IsTrue, MatchOption}
-use Rattle.rss_base.specs.Sizes.{page_entries, page_bytes}
+use Rattle.rss_base.specs.Sizes.{page_entries, page_bytes, bodies_room}
 use Rattle.rss_page.specs.declared.entry_form.Entry.{Entry}
 use Rattle.rss_page.specs.declared.entry_form.Entry.TheVariants.{Empty as EmptyEntry, Here as HereEntry, Forward as ForwardEntry}
 use Rattle.rss_page.specs.declared.surveying.Survey.{Survey}
 use Rattle.rss_page.specs.Content.{Content, Empty, Here}
-use Rattle.rss_page.specs.Slotted.{bodies_at, bodies_room, entries, entry_at, entry_of, body_bytes, place_of, length_of, IsEntry, IsSlotted, EndBy, OthersBeside}
+use Rattle.rss_page.specs.Slotted.{bodies_at, entries, entry_at, entry_of, body_bytes, place_of, length_of, IsEntry, IsSlotted, EndBy, OthersBeside}
 
 -- what the entry of a slot holds
 abbrev pub held_at : List Content → ℕ → Content

@@ -1,8 +1,8 @@
 // Changes of a page.
 ghost use Rattle.std.specs.Prelude.{◌≡◌, ◌+◌, ◌-◌, ◌<◌, ◌≤◌, ℕ, length, replicate, IfSome, IfNone};
-ghost use Rattle.rss_base.specs.Sizes.{page_entries, page_bytes};
+ghost use Rattle.rss_base.specs.Sizes.{page_entries, page_bytes, bodies_room};
 ghost use Rattle.rss_page.specs.Content.{Empty, Here, Forward, body_length};
-ghost use Rattle.rss_page.specs.Slotted.{bodies_at, bodies_room, part, entries, body_bytes, HasRoom, IsBody, IsSlotted, IsHome, Becomes, Sets, EndBy, MayPut, Overwrites, OthersBeside, OthersEndBy, OthersStay, OthersStayIfRoom};
+ghost use Rattle.rss_page.specs.Slotted.{bodies_at, part, entries, body_bytes, HasRoom, IsBody, IsSlotted, IsHome, Becomes, Sets, EndBy, MayPut, Overwrites, OthersBeside, OthersEndBy, OthersStay, OthersStayIfRoom};
 ghost use Rattle.rss_page.specs.Surveyed.{held_at, HasNoneAsLong, IsOwnPlace, IsSurvey};
 
 use crate::checked::formed_entry;

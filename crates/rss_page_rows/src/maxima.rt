@@ -1,6 +1,6 @@
 // Numbers that are found by their size, against a plain scan.
 use rss_asserts::{Draws, assert_same};
-use rss_maxima::{Maxima, NUMBERS_MOST};
+use rss_notes::{Maxima, NUMBERS_MOST};
 use std::test::Fail;
 
 /// How many numbers there are in each case: none, few, those of a whole group, and the most.

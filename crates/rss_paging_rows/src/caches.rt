@@ -88,13 +88,12 @@ impl Cache for Frames {
         if self.has(key) {
             return Err("a page that is there".into());
         }
-        match self.admit(key, false) {
-            Some(page) => {
-                *page = [0; 4096];
-                Ok(())
-            }
-            None => Err("no frame is free".into()),
+        if self.is_full() {
+            return Err("no frame is free".into());
         }
+        self.put(key, &[0; 4096]);
+        self.settle(key);
+        Ok(())
     }
 
     fn is_used(&mut self, number: u32) -> bool {
@@ -102,13 +101,12 @@ impl Cache for Frames {
     }
 
     fn is_written(&mut self, number: u32) -> bool {
-        match self.get_mut(key_of(number)) {
-            Some(page) => {
-                page[0] = 1;
-                true
-            }
-            None => false,
+        let key = key_of(number);
+        let there = self.has(key);
+        if there {
+            self.put(key, &[1; 4096]);
         }
+        there
     }
 
     fn settle_page(&mut self, number: u32) {

@@ -2,7 +2,7 @@
 ghost use Rattle.std.specs.Prelude.{◌*◌, ◌≤◌, length, IsTrue};
 ghost use Rattle.rss_base.specs.PageMap.{page_count};
 
-use rss_base::{Device, Failed, OpenFault, Page, PageKey, Root, Space, Tail, map_pages};
+use rss_base::{Device, Failed, OpenFault, Page, PageKey, Root, Space, Tail, VERSION, map_pages};
 use rss_device::MemDevice;
 use rss_images::filled_pages;
 use rss_pagemap::{SlotTable, read_table};
@@ -15,6 +15,7 @@ use std::test::Fail;
 /// of two bytes.
 pub(crate) fn first_root(slots: u32, area: u8) -> Root {
     Root {
+        version: VERSION,
         slots,
         log_pages: 8,
         area,

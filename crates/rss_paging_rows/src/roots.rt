@@ -3,7 +3,7 @@ use crate::harness::{
     SMALL_PAGES, first_root, others_from, pages_with_root, small_store, switch_from,
 };
 use rss_asserts::{assert_same, assert_same_slices};
-use rss_base::{Device, Failed, OpenFault, Page, Place, Root, Tail};
+use rss_base::{Device, Failed, OpenFault, Page, Place, Root, Tail, VERSION};
 use rss_device::{MemDevice, Unsynced};
 use rss_images::{UNSYNCED, copy_of_pages, failing_at, image_at, turn};
 use rss_root::{decode, encode, load};
@@ -12,7 +12,7 @@ use std::test::Fail;
 
 /// The first 24 bytes of the first root of a store of 64 slots.
 const FRONT: [u8; 24] = [
-    0x52, 0x53, 0x53, 0x52, 0x00, 0x01, 0x00, 0x00, 0x00, 0x00, 0x00, 0x40, 0x00, 0x00, 0x00, 0x08,
+    0x52, 0x53, 0x53, 0x52, 0x00, 0x03, 0x00, 0x00, 0x00, 0x00, 0x00, 0x40, 0x00, 0x00, 0x00, 0x08,
     0x00, 0x00, 0x00, 0x00, 0x00, 0x00, 0x00, 0x00,
 ];
 
@@ -59,12 +59,15 @@ const NOT_SIZE: Answer = Err(OpenFault::NotAStore(Place::Size));
 
 /// Bytes of a store's first pages: page, offset, the bits that are turned, and what a load answers
 /// then.
-const TURNED: [(usize, usize, u8, Answer); 31] = [
-    // The mark, the version and the zeros behind it.
+const TURNED: [(usize, usize, u8, Answer); 34] = [
+    // The mark, the versions 2 and 1, which mean the same, and 0 and 4, and the zeros behind them.
     (1, 0, 1, NOT_ROOT_1),
     (1, 3, 128, NOT_ROOT_1),
     (1, 4, 1, NOT_ROOT_1),
-    (1, 5, 1, NOT_ROOT_1),
+    (1, 5, 1, Ok(LOADS)),
+    (1, 5, 2, Ok(LOADS)),
+    (1, 5, 3, NOT_ROOT_1),
+    (1, 5, 7, NOT_ROOT_1),
     (1, 6, 255, NOT_ROOT_1),
     (1, 7, 1, NOT_ROOT_1),
     // No slots, and then 65, of which the device has another size.
@@ -197,6 +200,7 @@ const SWITCH_CALLS: [(u64, &str, Found); 4] = [
 fn root_between(head: u64, end: u64) -> Root {
     let zeros = [0u8; 4000];
     Root {
+        version: VERSION,
         slots: 64,
         log_pages: 8,
         area: 0,

@@ -26,7 +26,7 @@ use Rattle.rss_model.proofs.Codes.{name_total, name_apart}
 use Rattle.rss_model.proofs.Contents.{tied}
 use Rattle.rss_model.proofs.Counts.{one_if}
 use Rattle.rss_model.proofs.LogMeaning.{says_same, means_it_same}
-use Rattle.rss_model.proofs.Relisted.{number_of}
+use Rattle.rss_stored.proofs.Relisted.{number_of}
 use Rattle.rss_access.specs.Told.{IsTupleRecord, number_told}
 use Rattle.rss_access.specs.Relisted.{Relists}
 use Rattle.rss_access.proofs.Relisting.{relists_same}

@@ -25,12 +25,12 @@ use Rattle.rss_model.specs.Restart.{stays}
 use Rattle.rss_model.specs.Recovers.{WayFits}
 use Rattle.rss_model.specs.Meanings.{Logged, as_bytes, as_entries, is_change, is_change_of, is_redone, IsLogged}
 use Rattle.rss_model.specs.Spares.{ChangeCounts, change_counts, page_counts, HasMade, listed_bound, most_of}
-use Rattle.rss_model.specs.Store.{Stored, SpellsTables, held_in, listed_at, meter_of, pages_of_space, IsStore}
+use Rattle.rss_stored.specs.Store.{Stored, SpellsTables, held_in, listed_at, meter_of, pages_of_space, IsStore}
 use Rattle.rss_model.proofs.Counts.{one_if}
-use Rattle.rss_model.proofs.ImageRooms.{bound_rises, listed_same}
+use Rattle.rss_stored.proofs.ImageRooms.{bound_rises, listed_same}
 use Rattle.rss_model.proofs.LogLists.{by_test}
 use Rattle.rss_model.proofs.Sparing.{number_leaves_room, spare_in_restart}
-use Rattle.rss_model.proofs.StorePages.{map_allowed, owners_split, saved_few}
+use Rattle.rss_stored.proofs.StorePages.{map_allowed, owners_split, saved_few}
 use Rattle.rss_entries.specs.Rooms.{image_places}
 use Rattle.rss_access.specs.Changes.{AccessView}
 use Rattle.rss_restart.specs.Surveys.{redone_at}

@@ -18,9 +18,9 @@ use Rattle.rss_model.specs.Records.{Placed, Listed, Rise, changes_in}
 use Rattle.rss_model.specs.Restart.{losers, redone, stays}
 use Rattle.rss_model.specs.Recovers.{lists_at, Restarts}
 use Rattle.rss_model.specs.Meanings.{Logged, Says, MeansIt, is_listed, as_entries}
-use Rattle.rss_model.specs.Store.{SpellsTables}
+use Rattle.rss_stored.specs.Store.{SpellsTables}
 use Rattle.rss_model.proofs.LogLists.{all_front, all_back, all_filter}
-use Rattle.rss_model.proofs.LogPlaced.{placed_rise, entries_append}
+use Rattle.rss_stored.proofs.LogPlaced.{placed_rise, entries_append}
 use Rattle.rss_model.proofs.LogTying.{restarts}
 use Rattle.rss_access.specs.Changes.{AccessView}
 use Rattle.rss_restart.specs.declared.restarting.Way.TheVariants.{Back, Again}

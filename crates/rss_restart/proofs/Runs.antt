@@ -9,9 +9,9 @@ use Rattle.rss_model.specs.Tables.{Tables, content}
 use Rattle.rss_model.specs.Fits.{Fits}
 use Rattle.rss_model.specs.Meter.{counts_for}
 use Rattle.rss_model.specs.Spares.{listed_bound}
-use Rattle.rss_model.specs.Store.{SpellsTables}
+use Rattle.rss_stored.specs.Store.{SpellsTables}
 use Rattle.rss_model.proofs.Counts.{one_if}
-use Rattle.rss_model.proofs.ImageRooms.{bound_rises}
+use Rattle.rss_stored.proofs.ImageRooms.{bound_rises}
 use Rattle.rss_model.proofs.LogLists.{all_append}
 use Rattle.rss_entries.specs.Rooms.{image_places}
 use Rattle.rss_access.specs.Changes.{AccessView, applied}

@@ -8,7 +8,7 @@ use Rattle.rss_base.specs.Steps.{AreCounted}
 use Rattle.rss_base.specs.declared.key.PageKey.{PageKey}
 use Rattle.rss_tuple.specs.Heaps.{AreHeaps}
 use Rattle.rss_log.specs.Logs.{LogView}
-use Rattle.rss_model.specs.Store.{Stored, held_in, IsStore}
+use Rattle.rss_stored.specs.Store.{Stored, held_in, IsStore}
 use Rattle.rss_access.specs.Changes.{AccessView}
 use Rattle.rss_restart.specs.Restarting.{Recovery, recovered_tables, CanRestart}
 

@@ -17,7 +17,7 @@ use Rattle.rss_model.specs.Restart.{losers}
 use Rattle.rss_model.specs.Recovers.{lists_at, Recovers, WayFits}
 use Rattle.rss_model.specs.Meanings.{Logged, as_entries, is_redone, is_change_of, rootless, endless, IsLogged}
 use Rattle.rss_model.specs.Spares.{listed_bound}
-use Rattle.rss_model.specs.Store.{SpellsTables}
+use Rattle.rss_stored.specs.Store.{SpellsTables}
 use Rattle.rss_access.specs.Changes.{AccessView, alter_cost, Takes}
 use Rattle.rss_entries.specs.Rooms.{image_places}
 use Rattle.rss_access.specs.Written.{content_of, AreWritten}

@@ -23,7 +23,7 @@ use Rattle.rss_model.specs.Spares.{listed_bound}
 use Rattle.rss_model.specs.Restart.{losers}
 use Rattle.rss_model.specs.Recovers.{lists_at}
 use Rattle.rss_model.specs.Meanings.{IsChangeTold, Means, Logged, as_entries}
-use Rattle.rss_model.specs.Store.{SpellsTables}
+use Rattle.rss_stored.specs.Store.{SpellsTables}
 use Rattle.rss_access.specs.Told.{reversed}
 use Rattle.rss_access.specs.Changes.{AccessView, applied, alter_cost, Applies, Takes, HasRoomFor, CanApply}
 use Rattle.rss_entries.specs.Rooms.{image_places}

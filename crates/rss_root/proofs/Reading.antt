@@ -13,6 +13,7 @@ tail_in bytes end = take (end % 4000) (drop 96 bytes)
 -- what reads as a root
 abbrev pub root_in : List ℕ → Root
 root_in bytes = record {
+  version = get_or bytes 5 0;
   slots = from_be_bytes w32 (take 4 (drop 8 bytes));
   log_pages = from_be_bytes w32 (take 4 (drop 12 bytes));
   area = get_or bytes 16 0;
@@ -22,8 +23,8 @@ root_in bytes = record {
   tail = tail_in bytes (from_be_bytes w64 (take 8 (drop 40 bytes)));
 }
 
-pub same_fields : (a b : Root) → a.slots ≡ b.slots → a.log_pages ≡ b.log_pages → a.area ≡ b.area → a.head ≡ b.head → a.checkpoint ≡ b.checkpoint → a.end ≡ b.end → a.tail ≡ b.tail → a ≡ b
-same_fields a b slots log_pages area head checkpoint end tail = λ i. record { slots = slots i; log_pages = log_pages i; area = area i; head = head i; checkpoint = checkpoint i; end = end i; tail = tail i }
+pub same_fields : (a b : Root) → a.version ≡ b.version → a.slots ≡ b.slots → a.log_pages ≡ b.log_pages → a.area ≡ b.area → a.head ≡ b.head → a.checkpoint ≡ b.checkpoint → a.end ≡ b.end → a.tail ≡ b.tail → a ≡ b
+same_fields a b version slots log_pages area head checkpoint end tail = λ i. record { version = version i; slots = slots i; log_pages = log_pages i; area = area i; head = head i; checkpoint = checkpoint i; end = end i; tail = tail i }
 
 -- the page of a root reads as that root
 pub read_back : (bytes : List ℕ) (root : Root) → IsRootPage bytes root → root_in bytes ≡ root
@@ -34,6 +35,7 @@ read_back bytes root is =
     ap (tail_in (root_page root)) end ∙ ap (λ (n : ℕ). take n (root.tail ++ replicate (4000 - length root.tail) 0)) (sym formed.tail) ∙ take_at root.tail (replicate (4000 - length root.tail) 0) (length root.tail) refl in
     ap root_in is.spelled
     ∙ same_fields (root_in (root_page root)) root
+    refl
     (from_be_bytes-to_be_bytes_4 root.slots (omega arith))
     (from_be_bytes-to_be_bytes_4 root.log_pages (omega arith))
     refl

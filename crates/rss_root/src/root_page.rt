@@ -8,10 +8,12 @@ ghost use Rattle.rss_base.specs.declared.root.Root.{Root as SomeRoot};
 
 use rss_base::{
     LOG_PAGES_LEAST, LOG_PAGES_MOST, PAGE_BYTES, PIECE_BYTES, Page, Root, SLOTS_LEAST, SLOTS_MOST,
-    Tail, put_bytes, u32_at, u64_at,
+    Tail, VERSION, put_bytes, u32_at, u64_at,
 };
 
 /// Where the fields stand.
+const VERSION_AT: usize = 5;
+
 const SLOTS_AT: usize = 8;
 
 const LOG_PAGES_AT: usize = 12;
@@ -40,7 +42,8 @@ pub fn encode(root: &Root) -> Page
     ensures { result ≡ root_page root.now }
 {
     let mut page = [0u8; PAGE_BYTES];
-    put_bytes(&mut page, 0, b"RSSR\0\x01");
+    put_bytes(&mut page, 0, b"RSSR\0");
+    page[VERSION_AT] = root.version;
     put_bytes(&mut page, SLOTS_AT, &root.slots.to_be_bytes());
     put_bytes(&mut page, LOG_PAGES_AT, &root.log_pages.to_be_bytes());
     page[AREA_AT] = root.area;
@@ -59,6 +62,7 @@ pub fn decode(page: &Page) -> Option<Root>
     let end = u64_at(page, END_AT);
     let tail = (end % PIECE_LENGTH) as usize;
     let root = Root {
+        version: page[VERSION_AT],
         slots: u32_at(page, SLOTS_AT),
         log_pages: u32_at(page, LOG_PAGES_AT),
         area: page[AREA_AT],
@@ -84,11 +88,14 @@ fn log_free(root: &Root) -> u64
     kept_until.saturating_sub(root.end)
 }
 
-/// Whether the sizes are in range, the log's positions in order, and its tail as long as they say.
+/// Whether the version is known, the sizes in range, the log's positions in order, and its tail as
+/// long as they say.
 fn is_well_formed(root: &Root) -> bool
     ensures { IsTrue result ↔ IsWellFormed root.now }
 {
-    root.slots >= SLOTS_LEAST
+    root.version >= 1
+        && root.version <= VERSION
+        && root.slots >= SLOTS_LEAST
         && root.slots <= SLOTS_MOST
         && root.log_pages >= LOG_PAGES_LEAST
         && root.log_pages <= LOG_PAGES_MOST

@@ -82,6 +82,7 @@ static RELATIONS: [(&[u8], &[FieldDef]); 3] = [
         &[FieldDef {
             name: S,
             kind: FieldKind::Int,
+            added: false,
         }],
     ),
     (
@@ -90,12 +91,14 @@ static RELATIONS: [(&[u8], &[FieldDef]); 3] = [
             FieldDef {
                 name: S,
                 kind: FieldKind::Text(1),
+                added: false,
             },
             FieldDef {
                 name: Name {
                     bytes: *b"names_16_bytes_4",
                 },
                 kind: FieldKind::Text(255),
+                added: false,
             },
         ],
     ),
@@ -106,10 +109,12 @@ static RELATIONS: [(&[u8], &[FieldDef]); 3] = [
             FieldDef {
                 name: S,
                 kind: FieldKind::Int,
+                added: false,
             },
             FieldDef {
                 name: S,
                 kind: FieldKind::Text(20),
+                added: false,
             },
         ],
     ),

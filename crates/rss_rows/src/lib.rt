@@ -64,4 +64,6 @@ mod trials;
 #[cfg(test)]
 mod variables;
 #[cfg(test)]
+mod versions;
+#[cfg(test)]
 mod wide;

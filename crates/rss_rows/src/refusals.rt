@@ -182,11 +182,14 @@ const CATALOG_1: usize = 24;
 /// Bytes of a store of 64 slots at rest with one tuple of value 8, in root 1 and map 1: page, offset,
 /// the bits that are turned, and how the probe ends then. Its log has the records of the format and of
 /// the definitions, at 0, 2 and 4, the insert at 6, its end at 28, and the checkpoint at 33.
-static TURNED: [(usize, usize, u8, Ending); 82] = [
-    // The mark, the version, and the zeros behind them.
+static TURNED: [(usize, usize, u8, Ending); 85] = [
+    // The mark, the versions 2 and 1, which mean the same, and 0 and 4, and the zeros behind them.
     (ROOT_1, 0, 1, NOT_ROOT_1),
     (ROOT_1, 3, 128, NOT_ROOT_1),
-    (ROOT_1, 5, 1, NOT_ROOT_1),
+    (ROOT_1, 5, 1, OPENS),
+    (ROOT_1, 5, 2, OPENS),
+    (ROOT_1, 5, 3, NOT_ROOT_1),
+    (ROOT_1, 5, 7, NOT_ROOT_1),
     (ROOT_1, 7, 1, NOT_ROOT_1),
     // The slots and the log pages: one more of them, and too many.
     (ROOT_1, 11, 1, NOT_THE_SIZE),

@@ -19,7 +19,7 @@ use Rattle.rss_model.specs.Tables.{segment_of}
 use Rattle.rss_model.proofs.Codes.{name_apart}
 use Rattle.rss_model.proofs.HeapPages.{same_bool}
 use Rattle.rss_model.proofs.Frees.{in_segment, stands_in, is_listed, stands_defined}
-use Rattle.rss_model.proofs.Listed.{listed, number_within}
+use Rattle.rss_stored.proofs.Listed.{listed, number_within}
 use Rattle.rss_access.proofs.Numbered.{entry_at}
 use Rattle.rss_session.specs.Sessions.{SessionView}
 use Rattle.rss_session.specs.Shown.{Shows}

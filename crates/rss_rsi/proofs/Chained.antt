@@ -20,11 +20,11 @@ use Rattle.rss_base.specs.declared.tid.Tid.{Tid}
 use Rattle.rss_model.specs.Chains.{chain, chain_content, chain_with, has_spot, is_there, left_of, stands_in, tuples_in, with_behind, without, HasParent}
 use Rattle.rss_model.specs.Fits.{Fits}
 use Rattle.rss_model.specs.Items.{Content}
-use Rattle.rss_model.specs.LogLaws.{IsToldBy}
+use Rattle.rss_stored.specs.LogLaws.{IsToldBy}
 use Rattle.rss_model.specs.Machine.{State, now}
 use Rattle.rss_model.specs.Meanings.{name_at, nameless}
 use Rattle.rss_model.specs.Refusals.{connection, disconnection}
-use Rattle.rss_model.specs.Store.{Defines, link_definition, relation_name}
+use Rattle.rss_stored.specs.Store.{Defines, link_definition, relation_name}
 use Rattle.rss_model.specs.Tables.{Contents, Definitions, LinkDef, Tables, content}
 use Rattle.rss_model.proofs.ChainKeeping.{chain_back, chain_found, in_chain}
 use Rattle.rss_model.proofs.ChangeKeeping.{in_no_chain}

@@ -18,10 +18,10 @@ use Rattle.rss_base.specs.declared.log_record.LogRecord.TheVariants as records
 use Rattle.rss_base.specs.declared.place.Place.{Place}
 use Rattle.rss_base.specs.declared.refusal.Refusal.{Refusal}
 use Rattle.rss_base.proofs.Moments.{started, then, widened, rises_since}
-use Rattle.rss_model.specs.Calls.{GoesOn, GetsPlace, IsOutcome, IsCallOf}
+use Rattle.rss_stored.specs.Calls.{GoesOn, GetsPlace, IsOutcome, IsCallOf}
 use Rattle.rss_model.specs.Changes.{Change}
 use Rattle.rss_model.specs.Costs.{RisesAtMost}
-use Rattle.rss_model.specs.LogLaws.{IsToldBy}
+use Rattle.rss_stored.specs.LogLaws.{IsToldBy}
 use Rattle.rss_model.specs.Locks.{Locks}
 use Rattle.rss_model.specs.Machine.{State}
 use Rattle.rss_model.specs.Meter.{change_size}
@@ -29,9 +29,10 @@ use Rattle.rss_model.specs.ReplyText.{IsShort}
 use Rattle.rss_model.specs.Ruled.{ruled}
 use Rattle.rss_model.specs.Rules.{Verdict, GoesOn as GoesOnAsIs, SavesFirst, NoRoom, NoLogRoom, ruling, refusal_by, if_no_room}
 use Rattle.rss_model.specs.Steps.{IsOver, Step, keeps_locks, refusal}
-use Rattle.rss_model.proofs.Endings.{refused_by, comes_to}
-use Rattle.rss_model.proofs.LogCounting.{change_told_size}
-use Rattle.rss_model.proofs.Totals.{stops}
+use Rattle.rss_stored.proofs.Endings.{refused_by, comes_to}
+use Rattle.rss_stored.proofs.Listed.{fields_listed}
+use Rattle.rss_stored.proofs.LogCounting.{change_told_size}
+use Rattle.rss_stored.proofs.Totals.{stops}
 use Rattle.rss_store.specs.Changing.{MayMake}
 use Rattle.rss_store.specs.Shown.{HoldsTables}
 use Rattle.rss_store.specs.Stores.{StoreView}
@@ -67,8 +68,8 @@ refused_so (NoLogRoom free needed) = refl
 
 pub rules_say : {view : SessionView} {t : ℕ} {told_change : told.Change} {result : Result Bool Refusal} → RulesSo view t (relation_told told_change) (record_size (records.Change t told_change)) result → RulesSay view t told_change (refused_in result)
 rules_say {view = view} {t = t} {told_change = told_change} {result = result} rules told state change by is_told shows =
-    let size : change_size change ≡ record_size (records.Change t told_change) =
-    sym (change_told_size view.store.catalog.listing change.by told_change change is_told.tells is_told.means) ∙ ap (λ (u : ℕ). record_size (records.Change u told_change)) by in
+    let size : change_size state.base.definitions change ≡ record_size (records.Change t told_change) =
+    sym (change_told_size view.store.catalog.listing state.base.definitions (fields_listed shows.store.spells.listed shows.store.spells.defines) change.by told_change change is_told.tells is_told.means) ∙ ap (λ (u : ℕ). record_size (records.Change u told_change)) by in
     let its = numbered_told view.store.catalog.listing change.by change told_change is_told.tells is_told.means in
     refused_so (ruling state change) ∙ ap refused_in (rules told state change by its size shows)
 

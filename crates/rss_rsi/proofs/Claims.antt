@@ -13,7 +13,7 @@ use Rattle.rss_base.specs.declared.refusal.Refusal.{Refusal}
 use Rattle.rss_lock.specs.Locks.{LocksView}
 use Rattle.rss_lock.proofs.Firsts.{barred_is}
 use Rattle.rss_model.specs.Callers.{caller}
-use Rattle.rss_model.specs.Calls.{GoesOn, IsCallOf}
+use Rattle.rss_stored.specs.Calls.{GoesOn, IsCallOf}
 use Rattle.rss_model.specs.Costs.{may_lack_memory}
 use Rattle.rss_model.specs.Locks.{Bar, Locks, held, barred_by, first_bar, with_lock, granted}
 use Rattle.rss_model.specs.Machine.{State, now}

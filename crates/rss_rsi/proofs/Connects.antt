@@ -22,7 +22,7 @@ use Rattle.rss_lock.specs.Locks.{LocksView}
 use Rattle.rss_members.specs.Calls.{HasForm, IsPlaceOf}
 use Rattle.rss_members.specs.declared.membership.Membership.{Membership}
 use Rattle.rss_model.specs.Chains.{chain, chain_with, has_spot, left_of, stands_in}
-use Rattle.rss_model.specs.LogLaws.{IsToldBy}
+use Rattle.rss_stored.specs.LogLaws.{IsToldBy}
 use Rattle.rss_model.specs.Locks.{Locks, granted}
 use Rattle.rss_model.specs.Machine.{State, now}
 use Rattle.rss_model.specs.Needs.{needs}
@@ -36,7 +36,7 @@ use Rattle.rss_model.proofs.ChangeKeeping.{in_no_chain}
 use Rattle.rss_model.proofs.StepKeeping.{kept_fit}
 use Rattle.rss_model.proofs.Testing.{all_none, holds, holds_not}
 use Rattle.rss_model.proofs.Tests.{goes_on, passes_unless, refuses_unless}
-use Rattle.rss_model.proofs.Totals.{as_many}
+use Rattle.rss_model.proofs.Transfer.{over_same}
 use Rattle.rss_session.specs.Admissions.{Says, link_admission}
 use Rattle.rss_session.specs.Linking.{FindsMembership, SaysOfChain}
 use Rattle.rss_rsi.specs.Imaging.{Searches}
@@ -93,7 +93,7 @@ module _ (parts : RssParts) (t : ℕ) (link : Name) (number : ℕ) (known : IsNu
             is_told = is_told;
             refuses = refuses;
             may = λ passes. may_make parts.session (locked call state).locks is_in.kept is_told (finds_chain (kept_fit state is_in.kept).1 link parent)
-                (connects t link child parent spot state.meter.over (refuses ∙ passes) (as_many state.meter.over));
+                (connects t link child parent spot state.meter.over (refuses ∙ passes) (over_same state change));
             steps = λ passes over allowed. subst (λ (locks : Locks). Step state call (Ok Done) (record (ruled change over state) { locks = locks })) (locked_as is_in call listed t refl)
                 (connects t link child parent spot over (refuses ∙ passes) allowed);
           }
@@ -149,7 +149,7 @@ module _ (parts : RssParts) (t : ℕ) (link : Name) (number : ℕ) (known : IsNu
             is_told = is_told;
             refuses = refuses;
             may = λ passes. may_make parts.session (locked call state).locks is_in.kept is_told (finds_chain (kept_fit state is_in.kept).1 link place.parent)
-                (disconnects t link child item state.meter.over (refuses ∙ passes) here (as_many state.meter.over));
+                (disconnects t link child item state.meter.over (refuses ∙ passes) here (over_same state change));
             steps = λ passes over allowed. subst (λ (locks : Locks). Step state call (Ok Done) (record (ruled change over state) { locks = locks })) (locked_as is_in call listed t refl)
                 (disconnects t link child item over (refuses ∙ passes) here allowed);
           }

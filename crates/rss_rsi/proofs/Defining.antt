@@ -18,16 +18,16 @@ use Rattle.rss_base.specs.declared.fault.PageFault.{PageFault}
 use Rattle.rss_base.specs.declared.fault.PageFault.TheVariants.{Damaged as PageDamaged}
 use Rattle.rss_base.specs.declared.place.Place.{Place}
 use Rattle.rss_base.specs.declared.refusal.Refusal.{Refusal}
-use Rattle.rss_model.specs.Calls.{EngineView, GoesOn, IsCallOf, calls_most}
+use Rattle.rss_stored.specs.Calls.{EngineView, GoesOn, IsCallOf, calls_most}
 use Rattle.rss_model.specs.Costs.{RisesAtMost, most_asks, most_writes}
-use Rattle.rss_model.specs.Defining.{defined, with_definitions, DefinesNames}
+use Rattle.rss_model.specs.Defining.{defined, DefinesNames}
 use Rattle.rss_model.specs.Machine.{State}
 use Rattle.rss_model.specs.Steps.{Step, refusal, redefined}
 use Rattle.rss_model.specs.Steps.StepBy.{defines}
-use Rattle.rss_model.specs.Store.{OpensToEither}
-use Rattle.rss_model.specs.Tables.{Definitions}
-use Rattle.rss_model.specs.Turns.{IsStopped}
-use Rattle.rss_model.proofs.Endings.{comes_to, IsDefined, defined_by}
+use Rattle.rss_stored.specs.Store.{OpensToEither}
+use Rattle.rss_model.specs.Tables.{Tables}
+use Rattle.rss_stored.specs.Turns.{IsStopped}
+use Rattle.rss_stored.proofs.Endings.{comes_to, IsDefined, defined_by}
 use Rattle.rss_model.proofs.StepKeeping.{steps_keep}
 use Rattle.rss_catalog.specs.Catalogs.{CatalogView}
 use Rattle.rss_lock.specs.Locks.{LocksView}
@@ -145,8 +145,8 @@ module _ {S : Type 0} (pages_view : S → PagesView) {to : Definition S} {now : 
     told_then : IsTold before.session.store.pages.disk → IsTold between.store.pages.disk
     told_then told = subst (λ (p : PagesView). IsTold p.disk) (sym pages_same) told
 
-    -- in each state there are definitions to which the call leads
-    leads : IsTold before.session.store.pages.disk → (state : State) → IsIn before state → (definitions : Definitions) × (defined to.call state.base.definitions ≡ Some definitions)
+    -- in each state there are tables to which the call leads
+    leads : IsTold before.session.store.pages.disk → (state : State) → IsIn before state → (next : Tables) × (defined to.call state.base ≡ Some next)
     leads told state is_in = defines_some pages_view redefines is.ready.session is_in.kept is_in.shows (passed told state is_in.shows) is.names
 
     -- ---- and committed
@@ -161,46 +161,46 @@ module _ {S : Type 0} (pages_view : S → PagesView) {to : Definition S} {now : 
           (any_writes before.session.store.pages.writes new.store.pages.writes redefines.relists)
 
       module _ (told : IsTold before.session.store.pages.disk) (state : State) (is_in : IsIn before state) where
-        abbrev definitions : Definitions
-        definitions = (leads told state is_in).0
+        abbrev next : Tables
+        next = (leads told state is_in).0
 
-        so_defined : defined to.call state.base.definitions ≡ Some definitions
+        so_defined : defined to.call state.base ≡ Some next
         so_defined = (leads told state is_in).1
 
         not_refused : refusal state to.call ≡ None
         not_refused = passed told state is_in.shows
 
-        redefining : IsRedefined between state definitions
-        redefining = is_redefined pages_view redefines is.ready.session is_in.kept is_in.shows not_refused is.names definitions so_defined
+        redefining : IsRedefined between state next
+        redefining = is_redefined pages_view redefines is.ready.session is_in.kept is_in.shows not_refused is.names next so_defined
 
-        step : Step state to.call (Ok Done) (redefined definitions state)
-        step = defines to.call definitions not_refused is.names so_defined
+        step : Step state to.call (Ok Done) (redefined next state)
+        step = defines to.call next not_refused is.names so_defined
 
-        either : Passes before.session.store.pages.disk new.store.pages.disk (OpensToEither state.size state.base (with_definitions definitions state.base))
-        either = subst (λ (p : PagesView). Passes p.disk new.store.pages.disk (OpensToEither state.size state.base (with_definitions definitions state.base))) pages_same
-            (moments (told_then told) state definitions redefining)
+        either : Passes before.session.store.pages.disk new.store.pages.disk (OpensToEither state.size state.base next)
+        either = subst (λ (p : PagesView). Passes p.disk new.store.pages.disk (OpensToEither state.size state.base next)) pages_same
+            (moments (told_then told) state next redefining)
 
         may_stop : IsStopped before.session.store.pages.disk new.store.pages.disk state to.call
-        may_stop = record { answer = Ok Done; next = redefined definitions state; answered = record { step = step; moments = either } }
+        may_stop = record { answer = Ok Done; next = redefined next state; answered = record { step = step; moments = either } }
 
-        is_defined : {up : Type 0} → (IsTold between.store.pages.disk → (state : State) (definitions : Definitions) → IsRedefined between state definitions → Shows new (redefined definitions state))
+        is_defined : {up : Type 0} → (IsTold between.store.pages.disk → (state : State) (next : Tables) → IsRedefined between state next → Shows new (redefined next state))
             → IsDefined (view_of pages_view to) (engine_view (with_held new) calls up) state to.call
         is_defined shows = record {
-          definitions = definitions;
+          next = next;
           passed = not_refused;
           so = so_defined;
           shows = record {
-            shows = shows (told_then told) state definitions redefining;
+            shows = shows (told_then told) state next redefining;
             locked = is_in.locked ∙ ap (λ (l : LocksView). l.locks) (sym is.locked);
             scanned =
                 let none = none_scanning is_in.kept redefining.none_open in
-                still_scans is.scanned refl (none_open definitions state.scans to.scans none (vacant is_in.scanned none));
-            kept = steps_keep state (redefined definitions state) to.call (Ok Done) step is_in.kept;
+                still_scans is.scanned refl (none_open next.definitions state.scans to.scans none (vacant is_in.scanned none));
+            kept = steps_keep state (redefined next state) to.call (Ok Done) step is_in.kept;
           };
           moments = either;
         }
 
-      pub redefined_done : {up : Type 0} → up → (IsTold between.store.pages.disk → (state : State) (definitions : Definitions) → IsRedefined between state definitions → Shows new (redefined definitions state))
+      pub redefined_done : {up : Type 0} → up → (IsTold between.store.pages.disk → (state : State) (next : Tables) → IsRedefined between state next → Shows new (redefined next state))
           → IsCallOf (view_of pages_view to) (engine_view (with_held new) calls up) to.call (Ok Done)
       redefined_done is_up shows = comes_to refl goes_redefining (defined_by is.names is_up (λ told state is_in. is_defined told state is_in shows))
 
@@ -218,9 +218,9 @@ module _ {S : Type 0} (pages_view : S → PagesView) {to : Definition S} {now : 
     -- the device failed, or shows damage, which none does that tells its contents, where what is listed may be committed
     pub redefining_fails : {new : SessionView} {fault : PageFault} {up_now : Type 0} (answer : Result Reply CallError) → IsErrAnd answer (λ why. why ≡ page_error fault) → (up_now → ⊥)
         → SessionGoesOn {T = Unit {0}} between new (Err fault) → RedefinesTables between new → new.store.pages.asks ≡ between.store.pages.asks
-        → ((place : Place) → ◌≡◌ {A = Result (Unit {0}) PageFault} (Err fault) (Err (PageDamaged place)) → IsTold between.store.pages.disk → (state : State) (definitions : Definitions) → IsRedefined between state definitions → ⊥) → IsCallOf (view_of pages_view to) (engine_view (with_held new) calls up_now) to.call answer
+        → ((place : Place) → ◌≡◌ {A = Result (Unit {0}) PageFault} (Err fault) (Err (PageDamaged place)) → IsTold between.store.pages.disk → (state : State) (next : Tables) → IsRedefined between state next → ⊥) → IsCallOf (view_of pages_view to) (engine_view (with_held new) calls up_now) to.call answer
     redefining_fails answer answered down on moments asks sound =
-        failed_within answer answered refl down (on_before on moments asks) (goes_redefining on moments asks) (λ place same told state is_in. sound place same (told_then told) state (definitions on moments asks told state is_in) (redefining on moments asks told state is_in)) (may_stop on moments asks)
+        failed_within answer answered refl down (on_before on moments asks) (goes_redefining on moments asks) (λ place same told state is_in. sound place same (told_then told) state (next on moments asks told state is_in) (redefining on moments asks told state is_in)) (may_stop on moments asks)
 
 -- ---- calls that define
 

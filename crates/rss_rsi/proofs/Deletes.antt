@@ -18,7 +18,7 @@ use Rattle.rss_base.specs.declared.relation.RelationEntry.{RelationEntry}
 use Rattle.rss_base.specs.declared.tid.Tid.{Tid}
 use Rattle.rss_base.specs.declared.value.Value.{Value}
 use Rattle.rss_model.specs.Items.{Content}
-use Rattle.rss_model.specs.LogLaws.{IsToldBy}
+use Rattle.rss_stored.specs.LogLaws.{IsToldBy}
 use Rattle.rss_model.specs.Locks.{Locks, granted}
 use Rattle.rss_model.specs.Machine.{State, now}
 use Rattle.rss_model.specs.Needs.{needs}
@@ -28,7 +28,7 @@ use Rattle.rss_model.specs.Rules.{if_no_room}
 use Rattle.rss_model.specs.Steps.{Step, if_full, locked, refusal, admission}
 use Rattle.rss_model.specs.Steps.StepBy.{deletes}
 use Rattle.rss_model.proofs.Tests.{goes_on, passes_unless, refuses_at}
-use Rattle.rss_model.proofs.Totals.{as_many}
+use Rattle.rss_model.proofs.Transfer.{over_same}
 use Rattle.rss_access.proofs.Numbered.{entry_at}
 use Rattle.rss_catalog.specs.Catalogs.{CatalogView}
 use Rattle.rss_session.specs.Admissions.{Says}
@@ -100,7 +100,7 @@ module _ (parts : RssParts) (t : ℕ) (relation : Name) (tid : Tid) (admitted : 
           is_told = is_told;
           refuses = refuses;
           may = λ passes. may_make parts.session (locked (Delete t relation tid) state).locks is_in.kept is_told (sym there)
-              (deletes t relation tid was state.meter.over (refuses ∙ passes) there (as_many state.meter.over));
+              (deletes t relation tid was state.meter.over (refuses ∙ passes) there (over_same state change));
           steps = λ passes over allowed. subst (λ (locks : Locks). Step state (Delete t relation tid) (Ok Done) (record (ruled change over state) { locks = locks })) (locked_as is_in (Delete t relation tid) listed t refl)
               (deletes t relation tid was over (refuses ∙ passes) there allowed);
         }

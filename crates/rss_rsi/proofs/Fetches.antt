@@ -7,11 +7,11 @@ use Rattle.rss_base.specs.declared.name.Name.{Name}
 use Rattle.rss_base.specs.declared.need.Need.{Need}
 use Rattle.rss_base.specs.declared.tid.Tid.{Tid}
 use Rattle.rss_base.specs.declared.value.Value.{Value}
-use Rattle.rss_model.specs.Calls.{IsCallOf}
+use Rattle.rss_stored.specs.Calls.{IsCallOf}
 use Rattle.rss_model.specs.Locks.{granted}
 use Rattle.rss_model.specs.Steps.{admission, locked}
 use Rattle.rss_model.specs.Steps.StepBy.{fetches}
-use Rattle.rss_model.proofs.Endings.{comes_to}
+use Rattle.rss_stored.proofs.Endings.{comes_to}
 use Rattle.rss_session.specs.Admissions.{Says}
 use Rattle.rss_session.specs.Sessions.{SessionView}
 use Rattle.rss_rsi.specs.Views.{RssParts, engine_view}

@@ -11,7 +11,7 @@ use Rattle.rss_base.specs.declared.name.Name.{Name}
 use Rattle.rss_base.specs.declared.refusal.Refusal.{Refusal}
 use Rattle.rss_base.specs.declared.tid.Tid.{Tid}
 use Rattle.rss_base.specs.declared.value.Value.{Value}
-use Rattle.rss_model.specs.Calls.{EngineView, IsCallOf}
+use Rattle.rss_stored.specs.Calls.{EngineView, IsCallOf}
 use Rattle.rss_model.specs.Images.{Entry, entry}
 use Rattle.rss_model.specs.Locks.{Locks}
 use Rattle.rss_model.specs.Machine.{State, now}

@@ -18,7 +18,7 @@ use Rattle.rss_base.specs.declared.need.Mode.TheVariants.{IS, S}
 use Rattle.rss_base.specs.declared.refusal.Kind.TheVariants.{Image as ImageKind}
 use Rattle.rss_base.specs.declared.relation.RelationEntry.{RelationEntry}
 use Rattle.rss_base.specs.declared.tid.Tid.{Tid}
-use Rattle.rss_base.specs.declared.value.FieldKind.{FieldKind}
+use Rattle.rss_base.specs.declared.value.FieldForm.{FieldForm}
 use Rattle.rss_base.specs.declared.value.Value.{Value}
 use Rattle.rss_base.specs.declared.item.Item.TheVariants.{Tuple as TupleItem}
 use Rattle.rss_model.specs.Images.{Entry, entry, image_list, next_entry}
@@ -29,7 +29,7 @@ use Rattle.rss_model.specs.ReplyText.{IsShort}
 use Rattle.rss_model.specs.Refusals.{unless_in_chain}
 use Rattle.rss_model.specs.Scans.{RelationPath, ImagePath, LinkPath, list_of_image, next_along, next_of_scan, path_relation}
 use Rattle.rss_model.specs.Scans.{Path as MachinePath, Scan as MachineScan}
-use Rattle.rss_model.specs.Store.{IsListedImage, image_definition}
+use Rattle.rss_stored.specs.Store.{IsListedImage, image_definition}
 use Rattle.rss_model.specs.Tables.{ImageDef, Definitions, content}
 use Rattle.rss_model.proofs.Mixing.{In}
 use Rattle.rss_model.proofs.RelationLists.{next_in}
@@ -114,22 +114,22 @@ start_same : (image : ImageEntry) (relation : RelationEntry) (from : Option (Lis
 start_same image relation None = refl
 start_same image relation (Some key) = refl
 
-keys_fit : {fields : List FieldKind} (image : ImageEntry) (relation : RelationEntry) → fields ≡ kinds_in image relation → (from : Option (List Value)) → IfSome from (IsKey fields) → IfSome from (IsKeyIn image relation)
+keys_fit : {fields : List FieldForm} (image : ImageEntry) (relation : RelationEntry) → fields ≡ kinds_in image relation → (from : Option (List Value)) → IfSome from (IsKey fields) → IfSome from (IsKeyIn image relation)
 keys_fit image relation same None fit = tt
 keys_fit image relation same (Some key) fit =
-    let its = subst (λ (f : List FieldKind). IsKey f key) same fit in record { fit = its.fit; storable = its.storable }
+    let its = subst (λ (f : List FieldForm). IsKey f key) same fit in record { fit = its.fit; storable = its.storable }
 
-entries_fit : {fields : List FieldKind} (image : ImageEntry) (relation : RelationEntry) → fields ≡ kinds_in image relation → (last : Option Entry) → IfSome last (IsPair fields) → IfSome last (IsEntryIn image relation)
+entries_fit : {fields : List FieldForm} (image : ImageEntry) (relation : RelationEntry) → fields ≡ kinds_in image relation → (last : Option Entry) → IfSome last (IsPair fields) → IfSome last (IsEntryIn image relation)
 entries_fit image relation same None fit = tt
 entries_fit image relation same (Some given) fit =
-    let its = subst (λ (f : List FieldKind). IsPair f given) same fit in record { key = record { fit = its.key.fit; storable = its.key.storable }; tid = its.tid }
+    let its = subst (λ (f : List FieldForm). IsPair f given) same fit in record { key = record { fit = its.key.fit; storable = its.key.storable }; tid = its.tid }
 
-pair_fits : {fields : List FieldKind} (image : ImageEntry) (relation : RelationEntry) → fields ≡ kinds_in image relation → (given : Entry) → IsEntryIn image relation given → IsPair fields given
-pair_fits image relation same given fit = subst (λ (f : List FieldKind). IsPair f given) (sym same) (record { key = record { fit = fit.key.fit; storable = fit.key.storable }; tid = fit.tid })
+pair_fits : {fields : List FieldForm} (image : ImageEntry) (relation : RelationEntry) → fields ≡ kinds_in image relation → (given : Entry) → IsEntryIn image relation given → IsPair fields given
+pair_fits image relation same given fit = subst (λ (f : List FieldForm). IsPair f given) (sym same) (record { key = record { fit = fit.key.fit; storable = fit.key.storable }; tid = fit.tid })
 
-keys_back : {fields : List FieldKind} (image : ImageEntry) (relation : RelationEntry) → fields ≡ kinds_in image relation → (from : Option (List Value)) → IfSome from (IsKeyIn image relation) → IfSome from (IsKey fields)
+keys_back : {fields : List FieldForm} (image : ImageEntry) (relation : RelationEntry) → fields ≡ kinds_in image relation → (from : Option (List Value)) → IfSome from (IsKeyIn image relation) → IfSome from (IsKey fields)
 keys_back image relation same None fit = tt
-keys_back image relation same (Some key) fit = subst (λ (f : List FieldKind). IsKey f key) (sym same) (record { fit = fit.fit; storable = fit.storable })
+keys_back image relation same (Some key) fit = subst (λ (f : List FieldForm). IsKey f key) (sym same) (record { fit = fit.fit; storable = fit.storable })
 
 -- what is listed is defined
 image_is : {session : SessionView} {state : State} {number : ℕ} {listed : ImageEntry} {relation : RelationEntry} (image : Name) → Shows session state → IsListedImage session.store.catalog.listing number listed relation → listed.name ≡ image → map.get state.base.definitions.images image ≡ Some (image_definition listed relation)
@@ -177,7 +177,7 @@ image_starts {parts = parts} {state = state} t image number from start is_in num
     let fits = is_in.shows.store.spells.listed.paths.images number here.entry here.at in
     let its = starts here.entry fits.relation (record { at = here.at; within = fits.listed }) in
     let same = image_kinds image is_in.shows (record { at = here.at; within = fits.listed }) here.named in
-    let bytes : start_spelled (kinds_of state.base.definitions image) from ≡ start = ap (λ (f : List FieldKind). start_spelled f from) same ∙ start_same here.entry fits.relation from ∙ sym its.made in
+    let bytes : start_spelled (kinds_of state.base.definitions image) from ≡ start = ap (λ (f : List FieldForm). start_spelled f from) same ∙ start_same here.entry fits.relation from ∙ sym its.made in
     (λ i. record { path = Image image (bytes i); last = None }, (keys_back here.entry fits.relation same from its.fit, tt))
 
 -- the bytes that it starts at are as long as its keys
@@ -263,9 +263,9 @@ module _ {parts : RssParts} {t number : ℕ} {cursor : Cursor} (has : cursor_of 
       found_next finds =
           let way = its_way in_it in
           finds in_it.told state in_it.is_in.kept in_it.is_in.shows listed relation is way.from (keys_fit listed relation kinds_same way.from way.start_fits)
-          (way.starts ∙ ap (λ (f : List FieldKind). start_spelled f way.from) kinds_same ∙ start_same listed relation way.from)
+          (way.starts ∙ ap (λ (f : List FieldForm). start_spelled f way.from) kinds_same ∙ start_same listed relation way.from)
           scan.last (entries_fit listed relation kinds_same scan.last way.last_fits)
-          (way.gave ∙ ap (λ (f : List FieldKind). option_map (pair_spelled f) scan.last) kinds_same)
+          (way.gave ∙ ap (λ (f : List FieldForm). option_map (pair_spelled f) scan.last) kinds_same)
           ∙ ap (option_map (kept_pair listed relation)) (sym listed_next)
 
       -- ---- a pair was found
@@ -284,7 +284,7 @@ module _ {parts : RssParts} {t number : ℕ} {cursor : Cursor} (has : cursor_of 
         tid_same = ap (λ (pair : List ℕ × Tid). pair.1) got.2
 
         key_same : key_bytes (kinds_of state.base.definitions image) got.0.key ≡ key
-        key_same = ap (λ (f : List FieldKind). key_bytes f got.0.key) kinds_same ∙ ap (λ (pair : List ℕ × Tid). pair.0) got.2
+        key_same = ap (λ (f : List FieldForm). key_bytes f got.0.key) kinds_same ∙ ap (λ (pair : List ℕ × Tid). pair.0) got.2
 
         -- its tuple is there
         pub tuple_there : (values : List Value) × (content (now state).contents (TupleItem relation.name tid) ≡ Some (Values values))

@@ -17,15 +17,15 @@ use Rattle.rss_base.specs.declared.place.Place.{Place}
 use Rattle.rss_base.specs.declared.refusal.Refusal.{Refusal}
 use Rattle.rss_base.proofs.Moments.{then}
 use Rattle.rss_catalog.specs.Catalogs.{CatalogView}
-use Rattle.rss_model.specs.Calls.{IsCallOf}
+use Rattle.rss_stored.specs.Calls.{IsCallOf}
 use Rattle.rss_model.specs.Costs.{may_lack_memory}
-use Rattle.rss_model.specs.Defining.{DefinesNames, defined, if_repeated, image_def, with_image}
+use Rattle.rss_model.specs.Defining.{DefinesNames, defined, if_repeated, image_def, with_definitions, with_image}
 use Rattle.rss_model.specs.Kept.{Kept}
 use Rattle.rss_model.specs.Machine.{State, now}
 use Rattle.rss_model.specs.ReplyText.{IsShort}
 use Rattle.rss_model.specs.Rules.{if_no_room_for}
 use Rattle.rss_model.specs.Steps.{first_of, refusal}
-use Rattle.rss_model.specs.Tables.{Definitions}
+use Rattle.rss_model.specs.Tables.{Tables}
 use Rattle.rss_model.proofs.Tests.{goes_on, refuses_at}
 use Rattle.rss_session.specs.Admissions.{Says}
 use Rattle.rss_session.specs.Calls.{GoesOn, KeepsTables, ShowsNone}
@@ -47,14 +47,14 @@ pub record DefinesAny (call : Call) : Type 0 where
   pub costs : CostsAny call
   pub bare : NeedsNone call
   pub memory : may_lack_memory call ≡ true
-  pub so : (state : State) → (definitions : Definitions) × (defined call state.base.definitions ≡ Some definitions)
+  pub so : (state : State) → (next : Tables) × (defined call state.base ≡ Some next)
 
 pub any_image : {name relation : Name} {is_unique : Bool} {fields : List Name} → DefinesAny (MakeImage name relation is_unique fields)
 any_image {name = name} {relation = relation} {is_unique = is_unique} {fields = fields} = record {
   costs = record { asks = refl; writes = refl };
   bare = λ tables. refl;
   memory = refl;
-  so = λ state. (with_image state.base.definitions name (image_def relation is_unique fields), refl);
+  so = λ state. (with_definitions (with_image state.base.definitions name (image_def relation is_unique fields)) state.base, refl);
 }
 
 module _ (old new : RssParts) {n m : ℕ} {up up_now : Type 0} {call : Call} (any : DefinesAny call) (names : DefinesNames call) (held : SameHeld old new) (was_up : up) (calls : m ≤ n + 1) where
@@ -171,7 +171,7 @@ module _ (old mid : SessionView) {name relation : Name} {is_unique : Bool} {fiel
           redefines = λ told state kept shows.
               let passed_all = by_room (room name relation is_unique fields plans_still) told state kept shows in
               record {
-                definitions = with_image state.base.definitions name (image_def relation is_unique fields);
+                next = with_definitions (with_image state.base.definitions name (image_def relation is_unique fields)) state.base;
                 passed = passed_all;
                 so = refl;
                 redefines = makes.fills (looks.goes.told.0 told) state kept (looks.shows told state shows)

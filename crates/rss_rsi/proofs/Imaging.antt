@@ -20,19 +20,19 @@ use Rattle.rss_base.specs.declared.name.Name.{Name}
 use Rattle.rss_base.specs.declared.place.Place.{Place}
 use Rattle.rss_base.specs.declared.refusal.Refusal.{Refusal}
 use Rattle.rss_base.proofs.Moments.{then, widened}
-use Rattle.rss_model.specs.Calls.{GoesOn, IsCallOf, calls_most}
+use Rattle.rss_stored.specs.Calls.{GoesOn, IsCallOf, calls_most}
 use Rattle.rss_model.specs.Costs.{RisesAtMost}
-use Rattle.rss_model.specs.Defining.{defined, with_definitions, DefinesNames}
+use Rattle.rss_model.specs.Defining.{defined, DefinesNames}
 use Rattle.rss_model.specs.Machine.{State}
 use Rattle.rss_model.specs.ReplyText.{IsShort}
 use Rattle.rss_model.specs.Steps.{refusal, redefined, left_by}
 use Rattle.rss_model.specs.Steps.StepBy.{defines, refuses}
-use Rattle.rss_model.specs.Store.{OpensToEither}
-use Rattle.rss_model.specs.Tables.{Definitions}
-use Rattle.rss_model.specs.Turns.{IsStopped}
-use Rattle.rss_model.proofs.Endings.{comes_to, IsDefined, defined_by}
+use Rattle.rss_stored.specs.Store.{OpensToEither}
+use Rattle.rss_model.specs.Tables.{Tables}
+use Rattle.rss_stored.specs.Turns.{IsStopped}
+use Rattle.rss_stored.proofs.Endings.{comes_to, IsDefined, defined_by}
 use Rattle.rss_model.proofs.StepKeeping.{steps_keep}
-use Rattle.rss_model.proofs.Totals.{definition_stops}
+use Rattle.rss_stored.proofs.Totals.{definition_stops}
 use Rattle.rss_lock.specs.Locks.{LocksView}
 use Rattle.rss_lock.specs.declared.locks.Locks.{Locks as LockTable}
 use Rattle.rss_log.specs.Logs.{LogView}
@@ -65,11 +65,11 @@ goes_any {old = old} {new = new} {result = result} costs on calls =
     (rises_any old.session.store.pages.writes new.session.store.pages.writes costs.writes)
 
 -- a call that defines may make a step: it is refused, or it defines
-pub may_define : (state : State) (call : Call) {definitions : Definitions} → DefinesNames call → defined call state.base.definitions ≡ Some definitions → MayStep state call
-may_define state call {definitions = definitions} names so = by (refusal state call) refl
+pub may_define : (state : State) (call : Call) {next : Tables} → DefinesNames call → defined call state.base ≡ Some next → MayStep state call
+may_define state call {next = next} names so = by (refusal state call) refl
   where
     by : (why : Option Refusal) → refusal state call ≡ why → MayStep state call
-    by None is = record { answer = Ok Done; next = redefined definitions state; step = defines call definitions is names so }
+    by None is = record { answer = Ok Done; next = redefined next state; step = defines call next is names so }
     by (Some why) is = record { answer = Err why; next = left_by state call why; step = refuses call why is }
 
 module _ {S : Type 0} (pages_view : S → PagesView) {to : Definition S} {now : Session S} {locks : LocksView} {scans : OpenScans} {calls : ℕ} (is : IsListed pages_view to now locks scans calls) where
@@ -102,31 +102,31 @@ module _ {S : Type 0} (pages_view : S → PagesView) {to : Definition S} {now : 
       may : MayRedefine state to.call between
       may = is.lists.redefines told state is_in.kept is_in.shows
 
-      either : Passes before.session.store.pages.disk new.store.pages.disk (OpensToEither state.size state.base (with_definitions may.definitions state.base))
+      either : Passes before.session.store.pages.disk new.store.pages.disk (OpensToEither state.size state.base may.next)
       either = then (widened (is.lists.moments told state is_in.kept is_in.shows) (λ image opens. inl opens))
-          (moments (is.lists.goes.told.0 told) state may.definitions may.redefines) (λ image opens. opens)
+          (moments (is.lists.goes.told.0 told) state may.next may.redefines) (λ image opens. opens)
 
       may_stop : IsStopped before.session.store.pages.disk new.store.pages.disk state to.call
-      may_stop = definition_stops state to.call may.definitions is.names may.passed may.so either
+      may_stop = definition_stops state to.call may.next is.names may.passed may.so either
 
-      is_defined : {up : Type 0} → (IsTold between.store.pages.disk → (state : State) (definitions : Definitions) → IsRedefined between state definitions → Shows new (redefined definitions state))
+      is_defined : {up : Type 0} → (IsTold between.store.pages.disk → (state : State) (next : Tables) → IsRedefined between state next → Shows new (redefined next state))
           → IsDefined (view_of pages_view to) (engine_view (with_held new) calls up) state to.call
       is_defined shows = record {
-        definitions = may.definitions;
+        next = may.next;
         passed = may.passed;
         so = may.so;
         shows = record {
-          shows = shows (is.lists.goes.told.0 told) state may.definitions may.redefines;
+          shows = shows (is.lists.goes.told.0 told) state may.next may.redefines;
           locked = is_in.locked ∙ ap (λ (l : LocksView). l.locks) (sym is.locked);
           scanned =
               let none = none_scanning is_in.kept may.redefines.none_open in
-              still_scans is.scanned refl (none_open may.definitions state.scans to.scans none (vacant is_in.scanned none));
-          kept = steps_keep state (redefined may.definitions state) to.call (Ok Done) (defines to.call may.definitions may.passed is.names may.so) is_in.kept;
+              still_scans is.scanned refl (none_open may.next.definitions state.scans to.scans none (vacant is_in.scanned none));
+          kept = steps_keep state (redefined may.next state) to.call (Ok Done) (defines to.call may.next may.passed is.names may.so) is_in.kept;
         };
         moments = either;
       }
 
-    pub image_done : {up : Type 0} → up → (IsTold between.store.pages.disk → (state : State) (definitions : Definitions) → IsRedefined between state definitions → Shows new (redefined definitions state))
+    pub image_done : {up : Type 0} → up → (IsTold between.store.pages.disk → (state : State) (next : Tables) → IsRedefined between state next → Shows new (redefined next state))
         → IsCallOf (view_of pages_view to) (engine_view (with_held new) calls up) to.call (Ok Done)
     image_done is_up shows = comes_to refl goes_listed (defined_by is.names is_up (λ told state is_in. is_defined told state is_in shows))
 
@@ -140,10 +140,10 @@ module _ {S : Type 0} (pages_view : S → PagesView) {to : Definition S} {now : 
   -- the device failed, or shows damage, which none does that tells its contents
   pub image_fails : {new : SessionView} {fault : PageFault} {up_now : Type 0} (answer : Result Reply CallError) → IsErrAnd answer (λ why. why ≡ page_error fault) → (up_now → ⊥)
       → SessionGoesOn {T = Unit {0}} between new (Err fault) → RedefinesTables between new
-      → ((place : Place) → ◌≡◌ {A = Result (Unit {0}) PageFault} (Err fault) (Err (PageDamaged place)) → IsTold between.store.pages.disk → (state : State) (definitions : Definitions) → IsRedefined between state definitions → ⊥) → IsCallOf (view_of pages_view to) (engine_view (with_held new) calls up_now) to.call answer
+      → ((place : Place) → ◌≡◌ {A = Result (Unit {0}) PageFault} (Err fault) (Err (PageDamaged place)) → IsTold between.store.pages.disk → (state : State) (next : Tables) → IsRedefined between state next → ⊥) → IsCallOf (view_of pages_view to) (engine_view (with_held new) calls up_now) to.call answer
   image_fails answer answered down on moments sound =
       failed_within answer answered refl down (on_before on moments) (goes_listed on moments)
-      (λ place same told state is_in. let so = may on moments told state is_in in sound place same (is.lists.goes.told.0 told) state so.definitions so.redefines)
+      (λ place same told state is_in. let so = may on moments told state is_in in sound place same (is.lists.goes.told.0 told) state so.next so.redefines)
       (may_stop on moments)
 
 -- ---- what is listed
@@ -189,7 +189,7 @@ drop_listed {name = name} None is takes says moments goes = record {
   goes = goes_plain goes;
   moments = moments;
   redefines = λ told state kept shows. record {
-    definitions = without_image state.base.definitions name;
+    next = without_image state.base name;
     passed = says told state shows;
     so = refl;
     redefines = takes.redefines told state kept shows;

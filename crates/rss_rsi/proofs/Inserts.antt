@@ -25,8 +25,8 @@ use Rattle.rss_base.specs.declared.tid.Tid.{Tid}
 use Rattle.rss_base.specs.declared.value.Value.{Value}
 use Rattle.rss_tuple.specs.Placing.{IsChosen}
 use Rattle.rss_lock.specs.Locks.{LocksView}
-use Rattle.rss_model.specs.Calls.{GoesOn, IsCallOf, AreBarred}
-use Rattle.rss_model.specs.LogLaws.{IsToldBy}
+use Rattle.rss_stored.specs.Calls.{GoesOn, IsCallOf, AreBarred}
+use Rattle.rss_stored.specs.LogLaws.{IsToldBy}
 use Rattle.rss_model.specs.Locks.{Bar, Locks, first_bar, granted}
 use Rattle.rss_model.specs.Machine.{State, now}
 use Rattle.rss_model.specs.Needs.{need, needs}
@@ -41,7 +41,7 @@ use Rattle.rss_model.proofs.Frees.{some_free_is, free_there}
 use Rattle.rss_model.proofs.Lengths.{identifier_line}
 use Rattle.rss_model.proofs.Testing.{all_none, holds}
 use Rattle.rss_model.proofs.Tests.{goes_on, refuses_at, passes_unless, refuses_unless}
-use Rattle.rss_model.proofs.Totals.{as_many}
+use Rattle.rss_model.proofs.Transfer.{over_same}
 use Rattle.rss_access.proofs.Numbered.{name_of}
 use Rattle.rss_session.specs.Admissions.{Says}
 use Rattle.rss_session.specs.Looks.{LooksOn}
@@ -191,7 +191,7 @@ module _ (parts : RssParts) {t : ℕ} {relation : Name} {values : List Value} {n
       )
 
       -- the identifier is one of those that the pages have for the tuple
-      pub gets_place : (ListingFits parts.session.store.catalog.listing → length_of ≡ body_length parts.session.store.catalog.listing number (length (tuple_bytes values))) → IsTold parts.session.store.pages.disk → (state : State) → IsIn parts state → (barred : List Tid) → AreBarred state t relation barred
+      pub gets_place : (ListingFits parts.session.store.catalog.listing → length_of ≡ body_length parts.session.store.catalog.listing number (length (tuple_bytes (kinds entry.fields) values))) → IsTold parts.session.store.pages.disk → (state : State) → IsIn parts state → (barred : List Tid) → AreBarred state t relation barred
           → MayStandAt parts.session.store.pages parts.session.store.catalog.listing relation values barred tid
       gets_place same told state is_in barred exact = record {
         number = number;
@@ -220,7 +220,7 @@ module _ (parts : RssParts) {t : ℕ} {relation : Name} {values : List Value} {n
               is_told = is_told;
               refuses = refuses;
               may = λ passes. may_make parts.session (holding t (TupleItem relation tid) (locked (Insert t relation values) state)).locks is_in.kept is_told (sym (free.absent relation refl))
-                  (inserts t relation values tid state.meter.over (refuses ∙ passes) free (as_many state.meter.over));
+                  (inserts t relation values tid state.meter.over (refuses ∙ passes) free (over_same state (insertion t relation tid values)));
               steps = λ passes over allowed. subst (λ (locks : Locks). Step state (Insert t relation values) (Ok (Identifier tid)) (record (ruled (insertion t relation tid values) over state) { locks = locks })) (locks_too state told is_in)
                   (inserts t relation values tid over (refuses ∙ passes) free allowed);
             }

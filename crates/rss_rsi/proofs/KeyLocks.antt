@@ -21,7 +21,7 @@ use Rattle.rss_base.specs.declared.tid.Tid.{Tid}
 use Rattle.rss_base.specs.declared.value.Value.{Value}
 use Rattle.rss_catalog.specs.Catalogs.{CatalogView, IsSafeImage}
 use Rattle.rss_model.specs.Callers.{caller}
-use Rattle.rss_model.specs.Calls.{IsCallOf}
+use Rattle.rss_stored.specs.Calls.{IsCallOf}
 use Rattle.rss_model.specs.Images.{unique_images}
 use Rattle.rss_model.specs.Items.{Content, Values}
 use Rattle.rss_model.specs.Locks.{granted}
@@ -30,7 +30,7 @@ use Rattle.rss_model.specs.Needs.{need, needs, changing, key_needs, keys_of_each
 use Rattle.rss_model.specs.Refusals.{if_duplicate}
 use Rattle.rss_model.specs.ReplyText.{IsShort}
 use Rattle.rss_model.specs.Steps.{keeps_locks, locked, refusal}
-use Rattle.rss_model.specs.Store.{IsListedImage}
+use Rattle.rss_stored.specs.Store.{IsListedImage}
 use Rattle.rss_model.specs.Tables.{ImageDef, Tables, content}
 use Rattle.rss_model.proofs.StepKeeping.{kept_fit}
 use Rattle.rss_access.specs.Moved.{IsImageOf}

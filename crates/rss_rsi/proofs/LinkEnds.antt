@@ -21,7 +21,7 @@ use Rattle.rss_base.specs.declared.tid.Tid.{Tid}
 use Rattle.rss_lock.specs.Locks.{LocksView}
 use Rattle.rss_base.proofs.Moments.{then}
 use Rattle.rss_model.specs.Callers.{caller}
-use Rattle.rss_model.specs.Calls.{GoesOn, IsCallOf}
+use Rattle.rss_stored.specs.Calls.{GoesOn, IsCallOf}
 use Rattle.rss_model.specs.Costs.{RisesAtMost}
 use Rattle.rss_model.specs.Items.{Content}
 use Rattle.rss_model.specs.Kept.{Kept}
@@ -30,7 +30,7 @@ use Rattle.rss_model.specs.Needs.{needs}
 use Rattle.rss_model.specs.ReplyText.{IsShort}
 use Rattle.rss_model.specs.Steps.{keeps_locks, refusal, unless_live}
 use Rattle.rss_model.specs.Tables.{content}
-use Rattle.rss_model.proofs.Endings.{comes_to}
+use Rattle.rss_stored.proofs.Endings.{comes_to}
 use Rattle.rss_model.proofs.StepKeeping.{kept_fit}
 use Rattle.rss_model.proofs.Tests.{refuses_unless}
 use Rattle.rss_session.specs.Calls.{GoesOn as SessionGoesOn}

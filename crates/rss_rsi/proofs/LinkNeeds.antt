@@ -18,7 +18,7 @@ use Rattle.rss_members.specs.declared.membership.Membership.{Membership}
 use Rattle.rss_model.specs.Chains.{chain_with}
 use Rattle.rss_model.specs.Machine.{State, now}
 use Rattle.rss_model.specs.Needs.{need, segment_needs, relation_needs, tuple_read, tuple_changed, chain_needs, connect_needs, disconnect_needs, needs_of_chain, upper_needs, link_scan_needs, parent_needs, reading_all}
-use Rattle.rss_model.specs.Store.{relation_name}
+use Rattle.rss_stored.specs.Store.{relation_name}
 use Rattle.rss_model.specs.Tables.{LinkDef, Tables}
 use Rattle.rss_model.proofs.StepKeeping.{kept_fit}
 use Rattle.rss_rsi.specs.Linking.{ListsBehind, ListsPlaced, chain_list, chain_of, child_list, upper_list}

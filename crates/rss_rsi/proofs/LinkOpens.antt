@@ -19,7 +19,7 @@ use Rattle.rss_base.specs.declared.refusal.Refusal.{Refusal}
 use Rattle.rss_base.specs.declared.refusal.Refusal.TheVariants.{Limit}
 use Rattle.rss_base.specs.declared.tid.Tid.{Tid}
 use Rattle.rss_lock.specs.Locks.{LocksView}
-use Rattle.rss_model.specs.Calls.{IsCallOf}
+use Rattle.rss_stored.specs.Calls.{IsCallOf}
 use Rattle.rss_model.specs.Locks.{granted}
 use Rattle.rss_model.specs.Machine.{State}
 use Rattle.rss_model.specs.Needs.{needs}
@@ -27,7 +27,7 @@ use Rattle.rss_model.specs.Refusals.{if_scans_used_up}
 use Rattle.rss_model.specs.Scans.{LinkPath, scans_most, new_scan}
 use Rattle.rss_model.specs.Steps.{first_of, locked_by, with_scan}
 use Rattle.rss_model.specs.Steps.StepBy.{opens}
-use Rattle.rss_model.proofs.Endings.{comes_to}
+use Rattle.rss_stored.proofs.Endings.{comes_to}
 use Rattle.rss_model.proofs.Tests.{goes_on}
 use Rattle.rss_scan.specs.Scans.{IsLeastFree, begun}
 use Rattle.rss_scan.specs.declared.cursor.Path.TheVariants.{Link}

@@ -15,7 +15,7 @@ use Rattle.rss_base.specs.declared.refusal.Kind.TheVariants.{Link as LinkKind}
 use Rattle.rss_base.specs.declared.tid.Tid.{Tid}
 use Rattle.rss_lock.specs.Locks.{LocksView}
 use Rattle.rss_members.specs.Calls.{above_in}
-use Rattle.rss_model.specs.Calls.{IsCallOf}
+use Rattle.rss_stored.specs.Calls.{IsCallOf}
 use Rattle.rss_model.specs.Chains.{HasParent, chain_with}
 use Rattle.rss_model.specs.Items.{parent_of}
 use Rattle.rss_model.specs.Locks.{granted}
@@ -26,7 +26,7 @@ use Rattle.rss_model.specs.Steps.{locked, refusal}
 use Rattle.rss_model.specs.Steps.StepBy.{finds, finds_none}
 use Rattle.rss_model.specs.Tables.{Contents}
 use Rattle.rss_model.proofs.ChainKeeping.{chain_found}
-use Rattle.rss_model.proofs.Endings.{comes_to}
+use Rattle.rss_stored.proofs.Endings.{comes_to}
 use Rattle.rss_model.proofs.StepKeeping.{kept_fit}
 use Rattle.rss_session.specs.Admissions.{Says, link_admission}
 use Rattle.rss_session.specs.Linking.{SaysOfLink}

@@ -14,7 +14,7 @@ use Rattle.rss_base.specs.declared.refusal.Kind.TheVariants.{Segment as SegmentK
 use Rattle.rss_base.specs.declared.refusal.Refusal.{Refusal}
 use Rattle.rss_base.specs.declared.refusal.Refusal.TheVariants.{NoTransaction, NoSuch}
 use Rattle.rss_lock.specs.Locks.{LocksView}
-use Rattle.rss_model.specs.Calls.{IsCallOf}
+use Rattle.rss_stored.specs.Calls.{IsCallOf}
 use Rattle.rss_model.specs.Defining.{IsGranule, refused_unless, is_segment, is_relation}
 use Rattle.rss_model.specs.Locks.{granted}
 use Rattle.rss_model.specs.Machine.{State, is_open}
@@ -22,7 +22,7 @@ use Rattle.rss_model.specs.Needs.{lock_needs}
 use Rattle.rss_model.specs.Refusals.{busy, unless_granule}
 use Rattle.rss_model.specs.Steps.{keeps_locks, locked, unless_open}
 use Rattle.rss_model.specs.Steps.StepBy.{locks}
-use Rattle.rss_model.proofs.Endings.{comes_to}
+use Rattle.rss_stored.proofs.Endings.{comes_to}
 use Rattle.rss_model.proofs.Tests.{goes_on, refuses_at}
 use Rattle.rss_session.specs.Admissions.{Says, Refuses}
 use Rattle.rss_session.specs.Shown.{Shows}

@@ -1,6 +1,7 @@
 -- How calls end that look for a tuple first.
 use Rattle.std.proofs.Common.{◌≡◌, ℕ, ◌+◌, ◌*◌, ◌≤◌, List, length, true, false, refl, sym, ◌∙◌, ap, subst, arith}
 use Rattle.std.specs.Prelude.{is_some, Bool, Option, Some, None, IfErr, Result, Ok, Err, IsErrAnd}
+use Rattle.std.proofs.lemmas.List.{length-map}
 use Rattle.std.proofs.lemmas.Option.{none-some, same_Some}
 use Rattle.std.proofs.lemmas.Result.{err_from_is_err_and}
 use Rattle.rss_base.specs.Answers.{page_error}
@@ -9,12 +10,13 @@ use Rattle.rss_base.specs.Listings.{Listing, relation_at, IsNumberOf}
 use Rattle.rss_base.specs.LogRecords.{HasSlot}
 use Rattle.rss_base.specs.Runs.{run_pages}
 use Rattle.rss_base.specs.Steps.{PagesView}
-use Rattle.rss_base.specs.TupleTypes.{kinds, misfit}
+use Rattle.rss_base.specs.TupleTypes.{form_of, kinds, misfit, most_fields}
 use Rattle.rss_base.specs.declared.answer.CallError.{CallError}
 use Rattle.rss_base.specs.declared.answer.CallError.TheVariants.{Refused, Damaged, NoMemory}
 use Rattle.rss_base.specs.declared.answer.Reply.{Reply}
 use Rattle.rss_base.specs.declared.call.Call.{Call}
 use Rattle.rss_base.specs.declared.fault.PageFault.{PageFault}
+use Rattle.rss_base.specs.declared.field.FieldDef.{FieldDef}
 use Rattle.rss_base.specs.declared.item.Item.TheVariants.{Tuple as TupleItem}
 use Rattle.rss_base.specs.declared.name.Name.{Name}
 use Rattle.rss_base.specs.declared.need.Need.{Need}
@@ -23,8 +25,9 @@ use Rattle.rss_base.specs.declared.refusal.Kind.TheVariants.{Relation as Relatio
 use Rattle.rss_base.specs.declared.refusal.Refusal.TheVariants.{NoTuple}
 use Rattle.rss_base.specs.declared.relation.RelationEntry.{RelationEntry}
 use Rattle.rss_base.specs.declared.tid.Tid.{Tid}
+use Rattle.rss_base.specs.declared.value.FieldForm.{FieldForm}
 use Rattle.rss_base.specs.declared.value.Value.{Value}
-use Rattle.rss_model.specs.Calls.{EngineView, GoesOn, IsCallOf}
+use Rattle.rss_stored.specs.Calls.{EngineView, GoesOn, IsCallOf}
 use Rattle.rss_model.specs.Costs.{RisesAtMost, most_asks, most_writes}
 use Rattle.rss_model.specs.Items.{Content}
 use Rattle.rss_model.specs.Locks.{first_bar, granted}
@@ -33,12 +36,12 @@ use Rattle.rss_model.specs.Needs.{needs}
 use Rattle.rss_model.specs.ReplyText.{IsShort}
 use Rattle.rss_model.specs.Steps.{HasValues}
 use Rattle.rss_model.specs.Tables.{Tables, content}
-use Rattle.rss_model.proofs.Endings.{comes_to, within_most}
+use Rattle.rss_stored.proofs.Endings.{comes_to, within_most}
 use Rattle.rss_model.proofs.StepKeeping.{kept_fit}
-use Rattle.rss_model.proofs.Totals.{stops}
+use Rattle.rss_stored.proofs.Totals.{stops}
 use Rattle.rss_access.specs.Bodies.{IsBodyOf}
 use Rattle.rss_access.proofs.Numbered.{name_of}
-use Rattle.rss_catalog.specs.Catalogs.{CatalogView}
+use Rattle.rss_catalog.specs.Catalogs.{CatalogView, IsSafe}
 use Rattle.rss_session.specs.Looks.{LooksOn, FindsTuple}
 use Rattle.rss_lock.specs.Locks.{LocksView}
 use Rattle.rss_lock.specs.declared.locks.Locks.{Locks as LockTable}
@@ -220,6 +223,10 @@ pub body_fits : (listing : Listing) {listing_now : Listing} {number : ℕ} {know
     → (entry : RelationEntry) → relation_at listing number ≡ Some entry → misfit (kinds entry.fields) values ≡ None
 body_fits listing at {values = values} spelled entry there =
     ap (λ (r : RelationEntry). misfit (kinds r.fields) values) (same_Some _ _ (sym there ∙ at)) ∙ spelled.spelled.fit
+
+-- a relation that may be listed has no more fields than a line has room for
+pub few_fields : {relation : RelationEntry} → IsSafe relation → length (kinds relation.fields) ≤ most_fields
+few_fields {relation = relation} safe = omega (arith, safe.few, length-map {A = FieldDef} {B = FieldForm} relation.fields form_of)
 
 -- ---- ends
 

@@ -11,7 +11,7 @@ use Rattle.rss_base.specs.declared.relation.RelationEntry.{RelationEntry}
 use Rattle.rss_model.specs.Machine.{State, now}
 use Rattle.rss_model.specs.Needs.{need, segment_needs, relation_needs}
 use Rattle.rss_model.specs.Tables.{segment_of}
-use Rattle.rss_model.proofs.Listed.{listed, stands_within}
+use Rattle.rss_stored.proofs.Listed.{listed, stands_within}
 use Rattle.rss_access.proofs.Numbered.{name_of}
 use Rattle.rss_session.specs.Sessions.{SessionView}
 use Rattle.rss_session.specs.Shown.{Shows}

@@ -13,9 +13,9 @@ use Rattle.rss_lock.specs.Locks.{LocksView}
 use Rattle.rss_model.specs.Locks.{claim, claim_cmp}
 use Rattle.rss_model.specs.Machine.{StoreSize, State, IsAtRest}
 use Rattle.rss_model.specs.Ruled.{HasBothRooms}
-use Rattle.rss_model.specs.Store.{Stored, IsStore, size_of}
+use Rattle.rss_stored.specs.Store.{Stored, IsStore, size_of}
 use Rattle.rss_model.specs.Tables.{Tables}
-use Rattle.rss_model.proofs.LogPlaced.{recovered_fit}
+use Rattle.rss_stored.proofs.LogPlaced.{recovered_fit}
 use Rattle.rss_model.proofs.StepKeeping.{rest_keeps}
 use Rattle.rss_scan.specs.Scans.{OpenScans}
 use Rattle.rss_trans.specs.Transactions.{Transaction, nothing, OpenView, transaction_in}

@@ -21,7 +21,7 @@ use Rattle.rss_lock.specs.Locks.{is_barred}
 use Rattle.rss_lock.proofs.Firsts.{barred_iff_told}
 use Rattle.rss_tuple.specs.Placing.{IsChosen}
 use Rattle.rss_tuple.proofs.Barred.{chosen_barred}
-use Rattle.rss_model.specs.Calls.{AreBarred, IsCallOf}
+use Rattle.rss_stored.specs.Calls.{AreBarred, IsCallOf}
 use Rattle.rss_model.specs.Locks.{Locks, held, is_held_by_another}
 use Rattle.rss_model.specs.Machine.{State}
 use Rattle.rss_model.specs.Steps.{IsFree, relations_beside}

@@ -19,7 +19,7 @@ use Rattle.rss_model.specs.Chains.{chain, chain_with, has_spot, left_of}
 use Rattle.rss_model.specs.Kept.{Kept}
 use Rattle.rss_model.specs.Machine.{State, now}
 use Rattle.rss_model.specs.Refusals.{unless_child, unless_live, unless_live_below, unless_parent, unless_spot}
-use Rattle.rss_model.specs.Store.{relation_name}
+use Rattle.rss_stored.specs.Store.{relation_name}
 use Rattle.rss_model.specs.Tables.{LinkDef}
 use Rattle.rss_model.proofs.StepKeeping.{kept_fit}
 use Rattle.rss_model.proofs.Tests.{passes_if, passes_unless, refuses_if, refuses_unless}

@@ -21,7 +21,7 @@ use Rattle.rss_base.specs.declared.tid.Tid.{Tid}
 use Rattle.rss_base.specs.declared.value.Value.{Value}
 use Rattle.rss_lock.specs.Locks.{LocksView}
 use Rattle.rss_model.specs.Callers.{caller}
-use Rattle.rss_model.specs.Calls.{EngineView, GetsPlace, IsCallOf}
+use Rattle.rss_stored.specs.Calls.{EngineView, GetsPlace, IsCallOf}
 use Rattle.rss_model.specs.Costs.{may_lack_memory}
 use Rattle.rss_model.specs.Defining.{fields_now, refused_unless}
 use Rattle.rss_model.specs.Images.{entry, key_kinds}
@@ -34,7 +34,7 @@ use Rattle.rss_model.specs.Scans.{Path as MachinePath, Scan as MachineScan}
 use Rattle.rss_model.specs.Steps.{Step, admission, first_of, keeps_locks, locked_by, path_of, refusal, tests, unless_defined, unless_open, with_given, with_scan}
 use Rattle.rss_model.specs.Steps.StepBy.{opens, gives, stops, closes}
 use Rattle.rss_model.specs.Tables.{ImageDef}
-use Rattle.rss_model.proofs.Endings.{comes_to}
+use Rattle.rss_stored.proofs.Endings.{comes_to}
 use Rattle.rss_model.proofs.ScanKeeping.{its_scan}
 use Rattle.rss_model.proofs.Tests.{goes_on, passes_unless, refuses_at, refuses_unless}
 use Rattle.rss_scan.specs.Scans.{IsLeastFree, begun, cursor_of, given}

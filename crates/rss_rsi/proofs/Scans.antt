@@ -17,7 +17,7 @@ use Rattle.rss_base.specs.declared.refusal.LimitKind.TheVariants.{Scans as ScanL
 use Rattle.rss_base.specs.declared.refusal.Refusal.TheVariants.{Limit}
 use Rattle.rss_base.specs.declared.relation.RelationEntry.{RelationEntry}
 use Rattle.rss_base.specs.declared.tid.Tid.{Tid}
-use Rattle.rss_base.specs.declared.value.FieldKind.{FieldKind}
+use Rattle.rss_base.specs.declared.value.FieldForm.{FieldForm}
 use Rattle.rss_base.specs.declared.value.Value.{Value}
 use Rattle.rss_model.specs.Images.{Entry, entry}
 use Rattle.rss_model.specs.Items.{Values}
@@ -83,7 +83,7 @@ module _ (parts : RssParts) (number : ℕ) {known : RelationEntry} (at : relatio
     }
 
 -- a relation that has fields is defined
-is_defined : (found : Option RelationDef) {fields : List FieldKind} → option_map (λ (r : RelationDef). kinds r.fields) found ≡ Some fields → is_some found ≡ true
+is_defined : (found : Option RelationDef) {fields : List FieldForm} → option_map (λ (r : RelationDef). kinds r.fields) found ≡ Some fields → is_some found ≡ true
 is_defined None is = absurd (none-some _ is)
 is_defined (Some relation) is = refl
 

@@ -23,7 +23,7 @@ use Rattle.rss_store.specs.Changing.{MayMake}
 use Rattle.rss_session.specs.Sessions.{SessionView}
 use Rattle.rss_model.specs.Items.{Values}
 use Rattle.rss_model.specs.Kept.{Kept}
-use Rattle.rss_model.specs.LogLaws.{IsToldBy}
+use Rattle.rss_stored.specs.LogLaws.{IsToldBy}
 use Rattle.rss_model.specs.Machine.{State, now}
 use Rattle.rss_model.specs.Meanings.{nameless, name_at, TellsValues}
 use Rattle.rss_model.specs.Refusals.{insertion, deletion, replacement}

@@ -15,7 +15,7 @@ use Rattle.rss_model.specs.Rules.{saved_now, if_no_log_room}
 use Rattle.rss_model.specs.Scans.{closed}
 use Rattle.rss_model.specs.Steps.{Step, refusal, unless_open, begun, with_save, restored, gone, ended, committing, left_at, undone_to}
 use Rattle.rss_model.specs.Steps.StepBy.{begins, saves, restores, ends, aborts, checkpoints}
-use Rattle.rss_model.specs.Turns.{IsStopped}
+use Rattle.rss_stored.specs.Turns.{IsStopped}
 use Rattle.rss_model.proofs.StepKeeping.{steps_keep}
 use Rattle.rss_model.proofs.Tests.{goes_on}
 use Rattle.rss_model.proofs.Transfer.{undo_same}

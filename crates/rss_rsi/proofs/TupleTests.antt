@@ -11,7 +11,7 @@ use Rattle.rss_base.specs.declared.refusal.Kind.TheVariants.{Relation as Relatio
 use Rattle.rss_base.specs.declared.refusal.LimitKind.TheVariants.{Tuples as TupleLimit}
 use Rattle.rss_base.specs.declared.refusal.Refusal.TheVariants.{NoTransaction, NoSuch, NoTuple, BadTuple, Limit}
 use Rattle.rss_base.specs.declared.tid.Tid.{Tid}
-use Rattle.rss_base.specs.declared.value.FieldKind.{FieldKind}
+use Rattle.rss_base.specs.declared.value.FieldForm.{FieldForm}
 use Rattle.rss_base.specs.declared.value.Value.{Value}
 use Rattle.rss_base.specs.TupleTypes.{misfit}
 use Rattle.rss_model.specs.Defining.{refused_unless, refused_if}
@@ -62,7 +62,7 @@ first_keeps [] each = tt
 first_keeps (None ∷ rest) each = first_keeps rest each.1
 first_keeps (Some why ∷ rest) each = each.0
 
-misfit_keeps : (fields : Option (List FieldKind)) (values : List Value) → KeepsNone (misfit_of fields values)
+misfit_keeps : (fields : Option (List FieldForm)) (values : List Value) → KeepsNone (misfit_of fields values)
 misfit_keeps None values = tt
 misfit_keeps (Some fields) values = by (misfit fields values)
   where

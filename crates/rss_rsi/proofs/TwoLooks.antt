@@ -8,7 +8,8 @@ use Rattle.rss_base.specs.declared.key.Space.TheVariants.{Home}
 use Rattle.rss_base.specs.declared.relation.RelationEntry.{RelationEntry}
 use Rattle.rss_base.specs.declared.tid.Tid.{Tid}
 use Rattle.rss_catalog.specs.Catalogs.{CatalogView}
-use Rattle.rss_page.specs.Slotted.{bodies_room, body_bytes}
+use Rattle.rss_base.specs.Sizes.{bodies_room}
+use Rattle.rss_page.specs.Slotted.{body_bytes}
 use Rattle.rss_tuple.specs.Directory.{contents}
 use Rattle.rss_tuple.specs.Placing.{Wanted, IsOpen, IsSpot, IsNew, IsChosen, IsNameable, in_room, on_new, by_entry}
 use Rattle.rss_tuple.specs.TupleSteps.{IsLeast}

@@ -16,7 +16,7 @@ use Rattle.rss_base.specs.declared.relation.RelationEntry.{RelationEntry}
 use Rattle.rss_base.specs.declared.tid.Tid.{Tid}
 use Rattle.rss_base.specs.declared.value.Value.{Value}
 use Rattle.rss_model.specs.Items.{Content}
-use Rattle.rss_model.specs.LogLaws.{IsToldBy}
+use Rattle.rss_stored.specs.LogLaws.{IsToldBy}
 use Rattle.rss_model.specs.Locks.{Locks, granted}
 use Rattle.rss_model.specs.Machine.{State, now}
 use Rattle.rss_model.specs.Needs.{needs}
@@ -25,7 +25,7 @@ use Rattle.rss_model.specs.Ruled.{ruled}
 use Rattle.rss_model.specs.Rules.{if_no_room}
 use Rattle.rss_model.specs.Steps.{Step, if_full, locked, refusal, value_admission}
 use Rattle.rss_model.specs.Steps.StepBy.{updates}
-use Rattle.rss_model.proofs.Totals.{as_many}
+use Rattle.rss_model.proofs.Transfer.{over_same}
 use Rattle.rss_session.specs.Admissions.{Says}
 use Rattle.rss_rsi.specs.Views.{RssParts, IsIn}
 use Rattle.rss_rsi.specs.Looking.{LooksFor, FindsHeld}
@@ -82,7 +82,7 @@ module _ (parts : RssParts) (t : ℕ) (relation : Name) (tid : Tid) (values : Li
           is_told = is_told;
           refuses = refuses;
           may = λ passes. may_make parts.session (locked (Update t relation tid values) state).locks is_in.kept is_told (sym there)
-              (updates t relation tid was values state.meter.over (refuses ∙ passes) there (as_many state.meter.over));
+              (updates t relation tid was values state.meter.over (refuses ∙ passes) there (over_same state change));
           steps = λ passes over allowed. subst (λ (locks : Locks). Step state (Update t relation tid values) (Ok Done) (record (ruled change over state) { locks = locks })) (locked_as is_in (Update t relation tid values) listed t refl)
               (updates t relation tid was values over (refuses ∙ passes) there allowed);
         }

@@ -22,7 +22,7 @@ use Rattle.rss_base.specs.declared.refusal.Refusal.{Refusal}
 use Rattle.rss_base.proofs.Moments.{started, widened}
 use Rattle.rss_lock.specs.Table.{told}
 use Rattle.rss_lock.specs.declared.locks.Locks.{Locks as LockTable}
-use Rattle.rss_model.specs.Calls.{EngineView, GoesOn, GetsPlace, IsAnswer, IsCallOf}
+use Rattle.rss_stored.specs.Calls.{EngineView, GoesOn, GetsPlace, IsAnswer, IsCallOf}
 use Rattle.rss_model.specs.Costs.{RisesAtMost, most_asks, most_writes, may_lack_memory}
 use Rattle.rss_model.specs.Locks.{Locks, held, granted, released}
 use Rattle.rss_model.specs.Machine.{State, now}
@@ -31,10 +31,10 @@ use Rattle.rss_model.specs.ReplyText.{IsShort}
 use Rattle.rss_model.specs.Scans.{Scans}
 use Rattle.rss_model.specs.Steps.{Answer, Step, refusal, left_by, locked, locked_by, keeps_locks}
 use Rattle.rss_model.specs.Callers.{caller}
-use Rattle.rss_model.specs.Store.{OpensToEither}
+use Rattle.rss_stored.specs.Store.{OpensToEither}
 use Rattle.rss_model.specs.Tables.{Definitions, Tables}
-use Rattle.rss_model.specs.Turns.{IsStopped}
-use Rattle.rss_model.proofs.Endings.{within_most, refused_by, comes_to, failed}
+use Rattle.rss_stored.specs.Turns.{IsStopped}
+use Rattle.rss_stored.proofs.Endings.{within_most, refused_by, comes_to, failed}
 use Rattle.rss_model.proofs.Committing.{left_base}
 use Rattle.rss_model.proofs.Locking.{released_was}
 use Rattle.rss_model.proofs.OpenKeeping.{keeps_refused}

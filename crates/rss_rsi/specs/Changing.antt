@@ -7,7 +7,7 @@ use Rattle.rss_base.specs.declared.answer.CallError.TheVariants.{Refused, Damage
 use Rattle.rss_base.specs.declared.change.Change as told
 use Rattle.rss_base.specs.declared.refusal.Refusal.{Refusal}
 use Rattle.rss_model.specs.Changes.{Change}
-use Rattle.rss_model.specs.LogLaws.{IsToldBy}
+use Rattle.rss_stored.specs.LogLaws.{IsToldBy}
 use Rattle.rss_model.specs.Machine.{State}
 use Rattle.rss_model.specs.ReplyText.{IsShort}
 use Rattle.rss_model.specs.Rules.{if_no_room}

@@ -3,7 +3,7 @@ use Rattle.std.specs.Prelude.{◌≡◌, ℕ, ◌+◌, ◌<◌, false, [], Resul
 use Rattle.rss_base.specs.Steps.{PagesView}
 use Rattle.rss_base.specs.declared.call.Call.{Call}
 use Rattle.rss_base.specs.declared.refusal.Refusal.{Refusal}
-use Rattle.rss_model.specs.Calls.{EngineView, calls_most}
+use Rattle.rss_stored.specs.Calls.{EngineView, calls_most}
 use Rattle.rss_model.specs.Defining.{DefinesNames}
 use Rattle.rss_model.specs.Needs.{needs}
 use Rattle.rss_model.specs.Tables.{Tables}

@@ -7,13 +7,13 @@ use Rattle.rss_base.specs.declared.answer.CallError.{CallError}
 use Rattle.rss_base.specs.declared.answer.CallError.TheVariants.{Refused, Damaged, Device, NoMemory, Down}
 use Rattle.rss_base.specs.declared.call.Call.{Call}
 use Rattle.rss_base.specs.declared.fault.PageFault.TheVariants.{Device as DeviceFailed, Damaged as PageDamaged}
-use Rattle.rss_model.specs.Calls.{calls_most}
+use Rattle.rss_stored.specs.Calls.{calls_most}
 use Rattle.rss_model.specs.Costs.{most_asks, most_writes}
 use Rattle.rss_model.specs.Defining.{defined, DefinesNames}
 use Rattle.rss_model.specs.Kept.{Kept}
 use Rattle.rss_model.specs.Machine.{State}
 use Rattle.rss_model.specs.Steps.{refusal}
-use Rattle.rss_model.specs.Tables.{Definitions}
+use Rattle.rss_model.specs.Tables.{Tables}
 use Rattle.rss_lock.specs.Locks.{LocksView}
 use Rattle.rss_scan.specs.Scans.{OpenScans}
 use Rattle.rss_session.specs.Calls.{GoesOn, IsRedefined, KeepsTables}
@@ -27,10 +27,10 @@ use Rattle.rss_rsi.specs.Views.{IsReady}
 
 -- The call isn't refused in this state, and what it defines may be committed.
 pub record MayRedefine (state : State) (call : Call) (session : SessionView) : Type 0 where
-  pub definitions : Definitions
+  pub next : Tables
   pub passed : refusal state call ≡ None
-  pub so : defined call state.base.definitions ≡ Some definitions
-  pub redefines : IsRedefined session state definitions
+  pub so : defined call state.base ≡ Some next
+  pub redefines : IsRedefined session state next
 
 -- From a session in which nothing was open to one that lists what the call defines. A stop leaves the committed tables.
 pub record IsRelisted (call : Call) (old new : SessionView) : Type 0 where

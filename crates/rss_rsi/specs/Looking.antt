@@ -18,7 +18,7 @@ use Rattle.rss_base.specs.declared.relation.RelationEntry.{RelationEntry}
 use Rattle.rss_base.specs.declared.tid.Tid.{Tid}
 use Rattle.rss_base.specs.declared.value.Value.{Value}
 use Rattle.rss_model.specs.Callers.{caller}
-use Rattle.rss_model.specs.Calls.{EngineView, IsCallOf}
+use Rattle.rss_stored.specs.Calls.{EngineView, IsCallOf}
 use Rattle.rss_model.specs.Costs.{most_asks, most_writes, may_lack_memory}
 use Rattle.rss_model.specs.Defining.{DefinesNames, LocksGranule}
 use Rattle.rss_model.specs.Locks.{Bar, first_bar}

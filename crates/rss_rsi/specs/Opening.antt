@@ -3,9 +3,9 @@ use Rattle.std.specs.Prelude.{◌≡◌}
 use Rattle.rss_base.specs.DiskRule.{Pages, Told, Leaves}
 use Rattle.rss_base.specs.Devices.{DeviceView}
 use Rattle.rss_base.specs.declared.place.Place.{Place}
-use Rattle.rss_model.specs.Calls.{EngineView}
+use Rattle.rss_stored.specs.Calls.{EngineView}
 use Rattle.rss_model.specs.Machine.{State, IsAtRest}
-use Rattle.rss_model.specs.Store.{Stored, IsStore, IsBrokenAt, IsOverfull, size_of}
+use Rattle.rss_stored.specs.Store.{Stored, IsStore, IsBrokenAt, IsOverfull, size_of}
 use Rattle.rss_store.specs.Opening.{HasTables, OpensAt, IsSpent, PassesOpening}
 
 -- The engine is in a state at rest with the tables to which this store opens, and what a stop leaves is opened in that state.

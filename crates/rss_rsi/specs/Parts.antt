@@ -2,7 +2,7 @@
 use Rattle.std.specs.Prelude.{◌≡◌, false}
 use Rattle.rss_base.specs.declared.pages.Pages.{Ghosts as PagesGhosts}
 use Rattle.rss_buffer.specs.declared.saving.Saving.{Ghosts}
-use Rattle.rss_model.specs.Calls.{EngineView}
+use Rattle.rss_stored.specs.Calls.{EngineView}
 use Rattle.rss_store.specs.declared.store.DurableStore.{DurableStore}
 use Rattle.rss_lock.specs.Table.{told}
 use Rattle.rss_scan.specs.Scans.{told as scans_told}

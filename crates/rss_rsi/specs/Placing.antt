@@ -11,7 +11,7 @@ use Rattle.rss_base.specs.declared.refusal.Refusal.TheVariants.{Limit}
 use Rattle.rss_base.specs.declared.relation.RelationEntry.{RelationEntry}
 use Rattle.rss_base.specs.declared.tid.Tid.{Tid}
 use Rattle.rss_tuple.specs.Placing.{IsChosen, IsNameable}
-use Rattle.rss_model.specs.Calls.{AreBarred}
+use Rattle.rss_stored.specs.Calls.{AreBarred}
 use Rattle.rss_model.specs.Costs.{most_asks, most_writes}
 use Rattle.rss_model.specs.Machine.{State}
 use Rattle.rss_model.specs.Steps.{IsFree, refusal}

@@ -8,8 +8,8 @@ use Rattle.rss_base.specs.Listings.{Listing}
 use Rattle.rss_base.specs.declared.tid.Tid.{Tid}
 use Rattle.rss_base.specs.declared.key.Space.TheVariants.{Overflow}
 use Rattle.rss_model.specs.Machine.{State}
-use Rattle.rss_model.specs.Store.{HoldsState}
-use Rattle.rss_model.proofs.Stores.{same_overflow}
+use Rattle.rss_stored.specs.Store.{HoldsState}
+use Rattle.rss_stored.proofs.Stores.{same_overflow}
 use Rattle.rss_scan.specs.declared.cursor.Path.{Path}
 use Rattle.rss_scan.specs.declared.cursor.Path.TheVariants.{Relation, Image, Link}
 use Rattle.rss_rsi.specs.Views.{RssParts, IsIn, AreLong}

@@ -4,20 +4,20 @@ use Rattle.std.specs.FinMap.{get}
 use Rattle.rss_base.specs.Listings.{Listing, IsNumberOf, IsUnlisted, relation_at}
 use Rattle.rss_base.specs.Steps.{PagesView}
 use Rattle.rss_base.specs.Prefixes.{prefix_size}
-use Rattle.rss_base.specs.TupleTypes.{misfit, key_width, key_bytes, tuple_bytes, IsStorable}
+use Rattle.rss_base.specs.TupleTypes.{kinds, misfit, key_width, key_bytes, tuple_bytes, IsStorable}
 use Rattle.rss_base.specs.declared.item.Item.{Item}
 use Rattle.rss_base.specs.declared.name.Name.{Name}
 use Rattle.rss_base.specs.declared.need.Mode.{Mode}
 use Rattle.rss_base.specs.declared.refusal.Kind.TheVariants.{Image as ImageKind, Link as LinkKind}
 use Rattle.rss_base.specs.declared.relation.RelationEntry.{RelationEntry}
 use Rattle.rss_base.specs.declared.tid.Tid.{Tid}
-use Rattle.rss_base.specs.declared.value.FieldKind.{FieldKind}
+use Rattle.rss_base.specs.declared.value.FieldForm.{FieldForm}
 use Rattle.rss_base.specs.declared.value.Value.{Value}
 use Rattle.rss_node.specs.Pairs.{IsSpelledTid}
 use Rattle.rss_tuple.specs.Placing.{IsChosen}
 use Rattle.rss_catalog.specs.Catalogs.{HasNoLesser}
 use Rattle.rss_members.specs.Calls.{HasForm}
-use Rattle.rss_model.specs.Calls.{EngineView}
+use Rattle.rss_stored.specs.Calls.{EngineView}
 use Rattle.rss_model.specs.Images.{Entry, key_kinds}
 use Rattle.rss_model.specs.Kept.{Kept}
 use Rattle.rss_model.specs.Locks.{held}
@@ -46,19 +46,19 @@ pub record RssParts : Type 1 where
 -- ---- scans in bytes
 
 -- the kinds of the fields of an image's keys
-abbrev pub kinds_by : Definitions → Option ImageDef → List FieldKind
+abbrev pub kinds_by : Definitions → Option ImageDef → List FieldForm
 kinds_by definitions None = []
 kinds_by definitions (Some image) = key_kinds (fields_in definitions image.relation) image.fields
 
-abbrev pub kinds_of : Definitions → Name → List FieldKind
+abbrev pub kinds_of : Definitions → Name → List FieldForm
 kinds_of definitions image = kinds_by definitions (get definitions.images image)
 
 -- the bytes that a scan starts at whose keys have these fields: zeros where it has no key, which are at or below each of them
-abbrev pub start_spelled : List FieldKind → Option (List Value) → List ℕ
+abbrev pub start_spelled : List FieldForm → Option (List Value) → List ℕ
 start_spelled fields None = replicate (key_width fields) 0
 start_spelled fields (Some key) = key_bytes fields key
 
-abbrev pub pair_spelled : List FieldKind → Entry → List ℕ × Tid
+abbrev pub pair_spelled : List FieldForm → Entry → List ℕ × Tid
 pair_spelled fields given = (key_bytes fields given.key, given.tid)
 
 -- The cursor of a scan. Along a relation a key has no values, and no bytes.
@@ -73,12 +73,12 @@ spelling definitions (LinkPath link parent) last =
     record { path = Link link parent; last = option_map (pair_spelled []) last }
 
 -- a key of these fields, of values that can be stored
-pub record IsKey (fields : List FieldKind) (key : List Value) : Type 0 where
+pub record IsKey (fields : List FieldForm) (key : List Value) : Type 0 where
   pub fit : misfit fields key ≡ None
   pub storable : All IsStorable key
 
 -- such a key, and an identifier that can be spelled
-pub record IsPair (fields : List FieldKind) (given : Entry) : Type 0 where
+pub record IsPair (fields : List FieldForm) (given : Entry) : Type 0 where
   pub key : IsKey fields given.key
   pub tid : IsSpelledTid given.tid
 
@@ -117,7 +117,7 @@ pub record MayStandAt (pages : PagesView) (listing : Listing) (relation : Name) 
   pub entry : RelationEntry
   pub at : relation_at listing number ≡ Some entry
   pub named : entry.name ≡ relation
-  pub chosen : IsChosen pages entry.segment (body_length listing number (length (tuple_bytes values))) barred tid
+  pub chosen : IsChosen pages entry.segment (body_length listing number (length (tuple_bytes (kinds entry.fields) values))) barred tid
 
 -- an engine of these parts, which was asked for so many calls
 abbrev pub engine_view : RssParts → ℕ → Type 0 → EngineView

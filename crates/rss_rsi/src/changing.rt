@@ -2,7 +2,7 @@
 ghost use Rattle.std.specs.Prelude.{◌≡◌, ◌≤◌, true, false, OnOk};
 ghost use Rattle.rss_base.specs.LogRecords.{IsChangeBounded};
 ghost use Rattle.rss_trans.specs.Transactions.{is_open};
-ghost use Rattle.rss_model.specs.Calls.{calls_most};
+ghost use Rattle.rss_stored.specs.Calls.{calls_most};
 ghost use Rattle.rss_session.specs.Calls.{StayOpen};
 ghost use Rattle.rss_rsi.specs.Changing.{IsAsked, IsChangeOf};
 

@@ -6,7 +6,7 @@ ghost use Rattle.rss_base.specs.declared.answer.CallError.TheVariants.{NoMemory}
 ghost use Rattle.rss_base.specs.declared.call.Call.TheVariants.{MakeSegment, MakeRelation, MakeLink, DropSegment, DropRelation, DropLink};
 ghost use Rattle.rss_lock.specs.Table.{told};
 ghost use Rattle.rss_scan.specs.Scans.{told as scans_told};
-ghost use Rattle.rss_model.specs.Calls.{calls_most};
+ghost use Rattle.rss_stored.specs.Calls.{calls_most};
 
 use crate::Rss;
 use rss_base::{CallError, Fields, Name, Refusal, Reply};
@@ -14,7 +14,7 @@ use rss_buffer::Saving;
 use std::alloc::{AllocError, Global};
 
 impl<S: Saving> Rss<S> {
-    ghost use Rattle.rss_model.specs.Calls.{IsCallOf};
+    ghost use Rattle.rss_stored.specs.Calls.{IsCallOf};
     ghost use Rattle.rss_rsi.specs.Definitions.{Definition, IsDefining, view_of};
     ghost use Rattle.rss_rsi.specs.Parts.{view};
 

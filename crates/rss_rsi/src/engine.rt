@@ -1,13 +1,12 @@
 // A store that is open.
 ghost use Rattle.std.proofs.Props.{props};
 ghost use Rattle.rss_tuple.proofs.Props.{AreHeaps-prop};
-ghost use Rattle.rss_model.proofs.Props.{system_or_heap-prop};
 ghost use Rattle.std.specs.Prelude.{◌≡◌, ◌+◌, ◌<◌, false, true, IfErr, OnOk};
 ghost use Rattle.rss_base.specs.declared.answer.CallError.TheVariants.{Down};
 ghost use Rattle.std.specs.FinMap.{empty};
 ghost use Rattle.rss_lock.specs.Table.{told};
 ghost use Rattle.rss_scan.specs.Scans.{told as scans_told};
-ghost use Rattle.rss_model.specs.Calls.{calls_most};
+ghost use Rattle.rss_stored.specs.Calls.{calls_most};
 ghost use Rattle.rss_session.proofs.Props.{AreRising-prop};
 ghost use Rattle.rss_session.specs.Parts.{view as session_view};
 ghost use Rattle.rss_rsi.specs.RsiLaws.{AreLong-prop};
@@ -16,9 +15,9 @@ ghost use Rattle.rss_rsi.specs.Views.{IsReady};
 use rss_base::{Call, CallError, Reply};
 use rss_buffer::Saving;
 use rss_lock::Locks;
-use rss_model::Engine;
 use rss_scan::Scans;
 use rss_session::Session;
+use rss_stored::Engine;
 use std::alloc::Global;
 
 /// A store that is open: its tables and its log, with the transactions that are open in it, the
@@ -46,7 +45,7 @@ pub struct Rss<S: Saving> {
           session = session_view S.view session;
           locks = told locks;
           scans = scans_told scans;
-        }) calls } by { Prim.hlevel (props, system_or_heap-prop, AreHeaps-prop, AreRising-prop, AreLong-prop) },
+        }) calls } by { Prim.hlevel (props, AreHeaps-prop, AreRising-prop, AreLong-prop) },
 }
 
 impl<S: Saving> Rss<S> {

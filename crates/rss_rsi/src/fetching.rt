@@ -1,7 +1,7 @@
 // The call that gives a tuple.
 ghost use Rattle.std.specs.Prelude.{◌≡◌, ◌<◌};
 ghost use Rattle.rss_base.specs.declared.call.Call.TheVariants.{Fetch};
-ghost use Rattle.rss_model.specs.Calls.{calls_most};
+ghost use Rattle.rss_stored.specs.Calls.{calls_most};
 
 use crate::Rss;
 use crate::locking::Access;
@@ -9,7 +9,7 @@ use rss_base::{CallError, Name, Reply, Tid};
 use rss_buffer::Saving;
 
 impl<S: Saving> Rss<S> {
-    ghost use Rattle.rss_model.specs.Calls.{IsCallOf};
+    ghost use Rattle.rss_stored.specs.Calls.{IsCallOf};
     ghost use Rattle.rss_rsi.specs.Parts.{view};
 
     /// Gives a tuple.

@@ -5,7 +5,7 @@ ghost use Rattle.rss_base.specs.declared.answer.CallError.TheVariants.{NoMemory}
 ghost use Rattle.rss_base.specs.declared.call.Call.TheVariants.{MakeImage, DropImage};
 ghost use Rattle.rss_lock.specs.Table.{told};
 ghost use Rattle.rss_scan.specs.Scans.{told as scans_told};
-ghost use Rattle.rss_model.specs.Calls.{calls_most};
+ghost use Rattle.rss_stored.specs.Calls.{calls_most};
 ghost use Rattle.rss_session.specs.Filling.{IsPlanned, AreImageEntries};
 ghost use Rattle.rss_rsi.specs.Imaging.{SearchEnds};
 
@@ -14,7 +14,7 @@ use rss_base::{CallError, ImageEntry, Key, Name, PageFault, Reply, Tid};
 use rss_buffer::Saving;
 
 impl<S: Saving> Rss<S> {
-    ghost use Rattle.rss_model.specs.Calls.{IsCallOf};
+    ghost use Rattle.rss_stored.specs.Calls.{IsCallOf};
     ghost use Rattle.rss_rsi.specs.Definitions.{Definition, view_of};
     ghost use Rattle.rss_rsi.specs.Imaging.{IsListed};
     ghost use Rattle.rss_rsi.specs.Parts.{session_of, view};

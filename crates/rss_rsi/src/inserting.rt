@@ -1,7 +1,7 @@
 // The call that puts a tuple.
 ghost use Rattle.std.specs.Prelude.{◌≡◌, ◌<◌};
 ghost use Rattle.rss_base.specs.declared.call.Call.TheVariants.{Insert};
-ghost use Rattle.rss_model.specs.Calls.{calls_most};
+ghost use Rattle.rss_stored.specs.Calls.{calls_most};
 
 use crate::Rss;
 use crate::values::{body_len, values_of};
@@ -9,7 +9,7 @@ use rss_base::{CallError, Change, Name, Reply, Tuple};
 use rss_buffer::Saving;
 
 impl<S: Saving> Rss<S> {
-    ghost use Rattle.rss_model.specs.Calls.{IsCallOf};
+    ghost use Rattle.rss_stored.specs.Calls.{IsCallOf};
     ghost use Rattle.rss_rsi.specs.Parts.{view};
 
     /// Puts a tuple, and answers its identifier.

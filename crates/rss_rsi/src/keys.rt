@@ -148,5 +148,6 @@ fn copied(alloc: Global, value: &Value) -> Result<Value, AllocError>
     match value {
         Value::Int(number) => Ok(Value::Int(*number)),
         Value::Text(text) => Ok(Value::Text(Text::from_slice(alloc, text.as_slice())?)),
+        Value::Undefined => Ok(Value::Undefined),
     }
 }

@@ -1,7 +1,7 @@
 // The calls on links.
 ghost use Rattle.std.specs.Prelude.{◌≡◌, ◌<◌};
 ghost use Rattle.rss_base.specs.declared.call.Call.TheVariants.{Connect, Disconnect, Parent, OpenLink};
-ghost use Rattle.rss_model.specs.Calls.{calls_most};
+ghost use Rattle.rss_stored.specs.Calls.{calls_most};
 
 use crate::Rss;
 use crate::locking::Access;
@@ -10,7 +10,7 @@ use rss_buffer::Saving;
 use rss_scan::Path;
 
 impl<S: Saving> Rss<S> {
-    ghost use Rattle.rss_model.specs.Calls.{IsCallOf};
+    ghost use Rattle.rss_stored.specs.Calls.{IsCallOf};
     ghost use Rattle.rss_rsi.specs.Parts.{view};
 
     /// Puts a tuple into the chain of a parent, at a spot; a link without parents has one chain.

@@ -7,7 +7,7 @@ ghost use Rattle.rss_base.specs.declared.item.Item.TheVariants.{Segment, Relatio
 ghost use Rattle.rss_base.specs.declared.refusal.Kind.TheVariants.{Relation as RelationKind, Image as ImageKind};
 ghost use Rattle.rss_base.specs.declared.refusal.Refusal.TheVariants.{Busy};
 ghost use Rattle.rss_lock.specs.Table.{told};
-ghost use Rattle.rss_model.specs.Calls.{calls_most};
+ghost use Rattle.rss_stored.specs.Calls.{calls_most};
 ghost use Rattle.rss_model.specs.Defining.{IsGranule, LocksGranule};
 ghost use Rattle.rss_model.specs.Locks.{first_bar, granted, least_holder};
 ghost use Rattle.rss_model.specs.Machine.{State};
@@ -31,7 +31,7 @@ pub(crate) enum Access {
 }
 
 impl<S: Saving> Rss<S> {
-    ghost use Rattle.rss_model.specs.Calls.{IsCallOf};
+    ghost use Rattle.rss_stored.specs.Calls.{IsCallOf};
     ghost use Rattle.rss_rsi.specs.Parts.{parts_of, session_of, view};
 
     /// Locks a segment or a relation, shared or exclusive, until the transaction ends.

@@ -7,7 +7,7 @@ ghost use Rattle.rss_base.specs.declared.call.Call.TheVariants.{OpenRelation, Op
 ghost use Rattle.rss_base.specs.declared.refusal.Kind.TheVariants.{Scan as ScanKind, Link as LinkKind};
 ghost use Rattle.rss_base.specs.declared.refusal.Refusal.TheVariants.{NoSuch};
 ghost use Rattle.rss_members.specs.Calls.{HasForm};
-ghost use Rattle.rss_model.specs.Calls.{calls_most};
+ghost use Rattle.rss_stored.specs.Calls.{calls_most};
 ghost use Rattle.rss_node.specs.Pairs.{IsSpelledTid};
 ghost use Rattle.rss_rsi.specs.Looking.{EndsEach};
 ghost use Rattle.rss_rsi.specs.Placing.{MayCost};
@@ -27,7 +27,7 @@ use rss_buffer::Saving;
 use rss_scan::{Cursor, Path};
 
 impl<S: Saving> Rss<S> {
-    ghost use Rattle.rss_model.specs.Calls.{IsCallOf};
+    ghost use Rattle.rss_stored.specs.Calls.{IsCallOf};
     ghost use Rattle.rss_rsi.specs.Parts.{parts_of, session_of, view};
 
     /// Opens a scan of a relation, and answers its number: the least that isn't in use. The relation is

@@ -3,7 +3,7 @@ ghost use Rattle.std.specs.Prelude.{◌≡◌, ◌+◌, ◌<◌, ◌≤◌, leng
 ghost use Rattle.rss_base.specs.DiskRule.{WritesIn};
 ghost use Rattle.rss_base.specs.declared.answer.CallError.TheVariants.{NoMemory};
 ghost use Rattle.rss_base.specs.declared.call.Call.TheVariants.{Begin, Save, Restore, End, Abort, Checkpoint};
-ghost use Rattle.rss_model.specs.Calls.{calls_most};
+ghost use Rattle.rss_stored.specs.Calls.{calls_most};
 ghost use Rattle.rss_model.specs.Meter.{end_size};
 ghost use Rattle.rss_trans.specs.Transactions.{transaction_in};
 ghost use Rattle.rss_store.specs.Commits.{IsEndPlace, new_pieces};
@@ -13,7 +13,7 @@ use rss_base::{CallError, Reply};
 use rss_buffer::Saving;
 
 impl<S: Saving> Rss<S> {
-    ghost use Rattle.rss_model.specs.Calls.{IsCallOf};
+    ghost use Rattle.rss_stored.specs.Calls.{IsCallOf};
     ghost use Rattle.rss_rsi.specs.Parts.{view, session_of, store_of};
 
     /// Begins a transaction.

@@ -1,7 +1,7 @@
 // The call that gives a tuple other values.
 ghost use Rattle.std.specs.Prelude.{◌≡◌, ◌<◌};
 ghost use Rattle.rss_base.specs.declared.call.Call.TheVariants.{Update};
-ghost use Rattle.rss_model.specs.Calls.{calls_most};
+ghost use Rattle.rss_stored.specs.Calls.{calls_most};
 
 use crate::Rss;
 use crate::locking::Access;
@@ -10,7 +10,7 @@ use rss_base::{CallError, Change, Name, Reply, Tid, Tuple};
 use rss_buffer::Saving;
 
 impl<S: Saving> Rss<S> {
-    ghost use Rattle.rss_model.specs.Calls.{IsCallOf};
+    ghost use Rattle.rss_stored.specs.Calls.{IsCallOf};
     ghost use Rattle.rss_rsi.specs.Parts.{view};
 
     /// Gives a tuple other values.

@@ -6,8 +6,8 @@ ghost use Rattle.rss_device.specs.MemDevice.{view_of, IsFresh};
 use rss_base::{Device, Sink, Source, Unopened};
 use rss_device::{MemDevice, MemSink, MemSource};
 use rss_line::Names;
-use rss_model::{CALLS_MOST, Engine};
 use rss_rsi::{LEAST_FRAMES, MOST_FRAMES, open};
+use rss_stored::{CALLS_MOST, Engine};
 use rss_top::{Status, run, run_line};
 use std::alloc::{AllocError, Global};
 

@@ -6,7 +6,7 @@ use Rattle.rss_log.specs.Logs.{LogView}
 use Rattle.rss_catalog.specs.Catalogs.{CatalogView}
 use Rattle.rss_model.specs.Changes.{Change, maker, own, others, theirs}
 use Rattle.rss_model.specs.Kept.{Kept}
-use Rattle.rss_model.specs.LogLaws.{all_back}
+use Rattle.rss_stored.specs.LogLaws.{all_back}
 use Rattle.rss_model.specs.Locks.{released}
 use Rattle.rss_model.specs.Machine.{State, now}
 use Rattle.rss_model.specs.Meter.{end_size, with_record}

@@ -10,7 +10,7 @@ use Rattle.rss_base.specs.TupleTypes.{kinds, misfit}
 use Rattle.rss_base.specs.Listings.{relation_at, IsNumberOf}
 use Rattle.rss_base.specs.declared.name.Name.{Name}
 use Rattle.rss_base.specs.declared.value.Value.{Value}
-use Rattle.rss_base.specs.declared.value.FieldKind.{FieldKind}
+use Rattle.rss_base.specs.declared.value.FieldForm.{FieldForm}
 use Rattle.rss_base.specs.declared.relation.RelationEntry.{RelationEntry}
 use Rattle.rss_base.specs.declared.call.Call.TheVariants.{Begin}
 use Rattle.rss_base.specs.declared.refusal.Kind.TheVariants.{Relation as RelationKind}
@@ -22,10 +22,10 @@ use Rattle.rss_model.specs.Fits.{tuple_limit}
 use Rattle.rss_model.specs.Machine.{State, now}
 use Rattle.rss_model.specs.Machine as machine
 use Rattle.rss_model.specs.Steps.{first_of, misfit_of, unless_open, unless_defined, admission, value_admission, used_tuples, if_used_up, refusal}
-use Rattle.rss_model.specs.Store.{SpellsTables}
+use Rattle.rss_stored.specs.Store.{SpellsTables}
 use Rattle.rss_model.specs.Tables.{RelationDef, fields_of}
-use Rattle.rss_model.proofs.ByNumber.{relation_named}
-use Rattle.rss_model.proofs.Relisted.{number_of}
+use Rattle.rss_stored.proofs.ByNumber.{relation_named}
+use Rattle.rss_stored.proofs.Relisted.{number_of}
 use Rattle.rss_model.proofs.Tests.{goes_on, refuses_at, refuses_if, passes_if, passes_unless}
 use Rattle.rss_trans.specs.declared.sums.Sums.{Sums}
 use Rattle.rss_trans.specs.Transactions.{is_open, of_relation, sums_of}
@@ -99,11 +99,11 @@ module _ {view : SessionView} {state : State} (shows : Shows view state) where
           ap (fields_of state.base) (sym (name_of view.store.catalog.listing relation number entry known at))
           ∙ fields_listed state.base spells.listed spells.defines number entry at
 
-    module _ (fields : List FieldKind) (are : fields_of state.base relation ≡ Some fields) (admitted : admission state t relation ≡ None) (values : List Value) where
+    module _ (fields : List FieldForm) (are : fields_of state.base relation ≡ Some fields) (admitted : admission state t relation ≡ None) (values : List Value) where
       value_tested : value_admission state t relation values ≡ first_of (misfit_of (Some fields) values ∷ [])
       value_tested =
           first_passes (unless_open state t) (unless_defined state relation) (misfit_of (fields_of state.base relation) values ∷ []) admitted
-          ∙ ap (λ (o : Option (List FieldKind)). first_of (misfit_of o values ∷ [])) are
+          ∙ ap (λ (o : Option (List FieldForm)). first_of (misfit_of o values ∷ [])) are
 
       pub value_misfit : (field : ℕ) → misfit fields values ≡ Some field → value_admission state t relation values ≡ Some (BadTuple field)
       value_misfit field bad = value_tested ∙ refuses_at [] (ap (option_map BadTuple) bad)

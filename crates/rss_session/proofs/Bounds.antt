@@ -7,7 +7,7 @@ use Rattle.rss_base.specs.declared.relation.RelationEntry.{RelationEntry}
 use Rattle.rss_catalog.proofs.Numbered.{numbered_map}
 use Rattle.rss_model.specs.Meanings.{SameDefinitions}
 use Rattle.rss_model.specs.Spares.{ChangeCounts, PageCounts, bound_by, bound_at, listed_bound, IsInSession}
-use Rattle.rss_model.proofs.ImageRooms.{bound_rises}
+use Rattle.rss_stored.proofs.ImageRooms.{bound_rises}
 use Rattle.rss_restart.proofs.Rooming.{rootless_bounds}
 use Rattle.rss_session.specs.Sessions.{few}
 

@@ -17,14 +17,15 @@ use Rattle.rss_model.specs.Machine.{State}
 use Rattle.rss_model.specs.Meter.{Stamp, Meter, counted, change_size}
 use Rattle.rss_model.specs.Meanings.{name_at, nameless, IsChangeTold, TellsValues, Means, SameDefinitions}
 use Rattle.rss_model.specs.Records.{Listed}
-use Rattle.rss_model.specs.LogLaws.{noted}
+use Rattle.rss_stored.specs.LogLaws.{noted}
 use Rattle.rss_model.specs.Rules.{ruling, refusal_by, goes_on}
 use Rattle.rss_model.specs.Ruled.{HasBothRooms, ruled}
 use Rattle.rss_model.specs.Spares.{page_counts, TakesTwo, IsInSession}
 use Rattle.rss_model.proofs.BothRooms.{changes_keep_rooms}
-use Rattle.rss_model.proofs.ImageRooms.{bound_rises}
-use Rattle.rss_model.proofs.LogCounting.{change_told_size}
-use Rattle.rss_model.proofs.Relisted.{number_of}
+use Rattle.rss_stored.proofs.ImageRooms.{bound_rises}
+use Rattle.rss_stored.proofs.Listed.{fields_listed}
+use Rattle.rss_stored.proofs.LogCounting.{change_told_size}
+use Rattle.rss_stored.proofs.Relisted.{number_of}
 use Rattle.rss_model.proofs.Ruling.{behind}
 use Rattle.rss_model.proofs.Sparing.{session_changes}
 use Rattle.rss_trans.specs.declared.noted.Noted.{Noted}
@@ -135,8 +136,8 @@ module _ {told_change : told.Change} {old new : SessionView} {t : ℕ} {note : N
   abbrev listing : Listing
   listing = old.store.catalog.listing
 
-  size_is : change_size change ≡ record_size (records.Change change.by told_change)
-  size_is = sym (change_told_size listing change.by told_change change may.told.tells may.told.means)
+  size_is : change_size state.base.definitions change ≡ record_size (records.Change change.by told_change)
+  size_is = sym (change_told_size listing state.base.definitions (fields_listed shows.store.spells.listed shows.store.spells.defines) change.by told_change change may.told.tells may.told.means)
 
   its : IsNumbered listing change.item (relation_told told_change)
   its = numbered_told listing change.by change told_change may.told.tells may.told.means
@@ -150,7 +151,7 @@ module _ {told_change : told.Change} {old new : SessionView} {t : ℕ} {note : N
   let_through = rw on refl
 
   ruled_is : ruled change store.over state ≡ noted change store.over state
-  ruled_is = λ i. record state { changes = change ∷ state.changes; meter = counted change store.over (ap (behind state) on i) }
+  ruled_is = λ i. record state { changes = change ∷ state.changes; meter = counted state.base.definitions change store.over (ap (behind state) on i) }
 
   abbrev l : Listed
   l = record { at = state.meter.end; change = change }
@@ -179,7 +180,7 @@ module _ {told_change : told.Change} {old new : SessionView} {t : ℕ} {note : N
     told = recounted_tells listing new.store.catalog.listing new.opened state.marks (l ∷ shows.listed)
         (change_tells listing old.opened new.opened state.marks shows.listed note l shows.told (ap (is_open old.opened) by ∙ opened) is_note notes_by) definitions;
     counted = record {
-      since = since_relisted definitions (since_told listing old.opened new.opened state.meter note l store.over shows.counted.since shows.store.spells.listed.relations_once is_note notes_by few);
+      since = since_relisted definitions (since_told listing old.opened new.opened state.base.definitions state.meter note l store.over shows.counted.since shows.store.spells.listed.relations_once is_note notes_by few);
       each = each_still definitions still.entries still.survived (each_with change.item shows.counted.each);
       heap = shows.counted.heap ∙ sym still.heap;
       surviving = shows.counted.surviving ∙ sym still.surviving;

@@ -26,13 +26,13 @@ use Rattle.rss_model.specs.Tables.{tuple_count}
 use Rattle.rss_model.specs.Changes.{Change, after}
 use Rattle.rss_model.specs.Machine.{State, now}
 use Rattle.rss_model.specs.Records.{changes_in}
-use Rattle.rss_model.specs.Defining.{has_twice, is_relation, has_image, has_link, holds_tuples, if_any_open, least_open}
+use Rattle.rss_model.specs.Defining.{has_twice, is_relation, has_image, has_link, holds_tuples, if_any_open, least_open, originals}
 use Rattle.rss_model.specs.Steps.{first_of, refusal}
 use Rattle.rss_model.specs.ReplyText.{IsShort}
-use Rattle.rss_model.specs.Store.{SpellsTables}
-use Rattle.rss_model.proofs.ByNumber.{segment_named, segment_unnamed, relation_named, relation_unnamed, segments_full, segments_left, relations_full, relations_left, segment_used, segment_unused}
+use Rattle.rss_stored.specs.Store.{SpellsTables}
+use Rattle.rss_stored.proofs.ByNumber.{segment_named, segment_unnamed, relation_named, relation_unnamed, segments_full, segments_left, relations_full, relations_left, segment_used, segment_unused}
 use Rattle.rss_model.proofs.Heap.{nothing}
-use Rattle.rss_model.proofs.Prefixes.{parts_are}
+use Rattle.rss_stored.proofs.Prefixes.{parts_are}
 use Rattle.rss_model.proofs.Tests.{goes_on, passes_if, passes_unless, refuses_at, refuses_if, make_segment_taken, make_segment_many, make_segment_passes, drop_segment_lacks, drop_segment_full, drop_segment_passes, drop_relation_lacks, drop_relation_full, make_relation_lacks, make_relation_taken, make_relation_many, make_relation_passes}
 use Rattle.rss_trans.specs.Transactions.{Transaction}
 use Rattle.rss_trans.specs.Tables.{told}
@@ -214,15 +214,15 @@ module _ {view : SessionView} {state : State} (shows : Shows view state) (closed
 
         module _ (room : AreAllUsed RelationKind view.store.catalog.listing → ⊥) where
           -- all but the tests of its fields are passed
-          pub relation_by_fields : refusal state (MakeRelation name within fields) ≡ first_of (fields_tests fields)
+          pub relation_by_fields : refusal state (MakeRelation name within fields) ≡ first_of (fields_tests (originals fields))
           relation_by_fields =
               goes_on _ none_is_open
               ∙ goes_on _ (passes_unless (NoSuch SegmentKind) segment_there)
               ∙ goes_on _ (passes_if NameTaken (or_from (is_relation state name) (has_twice (field_names fields)) unnamed once))
               ∙ goes_on _ (passes_if (Limit RelationLimit) (relations_left spells.listed spells.defines room))
 
-          pub relation_may : are_kinds (kinds fields) ≡ true → width (kinds fields) ≤ most_width → refusal state (MakeRelation name within fields) ≡ None
-          relation_may formed narrow = make_relation_passes state least name within fields segment_there unnamed once (relations_left spells.listed spells.defines room) formed (le-leb (width (kinds fields)) most_width narrow)
+          pub relation_may : are_kinds (kinds (originals fields)) ≡ true → width (kinds (originals fields)) ≤ most_width → refusal state (MakeRelation name within fields) ≡ None
+          relation_may formed narrow = make_relation_passes state least name within fields segment_there unnamed once (relations_left spells.listed spells.defines room) formed (le-leb (width (kinds (originals fields))) most_width narrow)
 
 -- ---- what they make of the session
 

@@ -12,10 +12,10 @@ use Rattle.rss_base.specs.declared.refusal.Kind.TheVariants.{Image as ImageKind}
 use Rattle.rss_base.specs.declared.refusal.Refusal.TheVariants.{NoSuch}
 use Rattle.rss_base.specs.declared.relation.RelationEntry.{RelationEntry}
 use Rattle.rss_catalog.specs.Catalogs.{CatalogView}
-use Rattle.rss_model.specs.Defining.{is_image, with_definitions}
+use Rattle.rss_model.specs.Defining.{is_image}
 use Rattle.rss_model.specs.Machine.{State}
 use Rattle.rss_model.specs.Steps.{refusal}
-use Rattle.rss_model.specs.Store.{IsListedImage, SpellsTables}
+use Rattle.rss_stored.specs.Store.{IsListedImage, SpellsTables}
 use Rattle.rss_model.proofs.Tests.{goes_on, passes_unless, refuses_at, refuses_unless}
 use Rattle.rss_access.specs.Changes.{both}
 use Rattle.rss_access.proofs.ImageGone.{Taken, taken_can, taken_spells, taken_written}
@@ -56,8 +56,8 @@ module _ {old : SessionView} {pages : PagesView} {catalog : CatalogView} {number
         touches = touches;
         saves = can_save_touched ready touches (store_touched old taken.step catalog ready.store (pending_long lists ready.store.pending_places) can);
         redefines = λ told state kept shows.
-            redefined_touched ready touches told closed kept shows (DropImage name) (without_image state.base.definitions name) (image_drops shows closed taken.at named) tt refl
+            redefined_touched ready touches told closed kept shows (DropImage name) (without_image state.base name) (image_drops shows closed taken.at named) tt refl
             (taken_written taken shows.store.spells.listed told ready.store.pending_places shows.store.written)
-            (subst (λ (n : Name). SpellsTables pages.held catalog.listing (with_definitions (without_image state.base.definitions n) state.base)) named
+            (subst (λ (n : Name). SpellsTables pages.held catalog.listing (without_image state.base n)) named
             (taken_spells taken told (base_spelled closed shows)));
       }

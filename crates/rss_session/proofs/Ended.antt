@@ -13,7 +13,7 @@ use Rattle.rss_model.specs.Kept.{Kept, FitMixed, IsMetered}
 use Rattle.rss_model.specs.Locks.{released}
 use Rattle.rss_model.specs.Machine.{State, with_changes}
 use Rattle.rss_model.specs.Meter.{end_size, with_record}
-use Rattle.rss_model.specs.LogLaws.{committed_now}
+use Rattle.rss_stored.specs.LogLaws.{committed_now}
 use Rattle.rss_model.specs.Ruled.{HasBothRooms}
 use Rattle.rss_model.specs.Records.{others_in}
 use Rattle.rss_model.specs.Scans.{closed}

@@ -6,8 +6,9 @@ use Rattle.std.specs.List.{list_any, list_all, HoldsAt, AllWithin}
 use Rattle.std.specs.Ordering.{eq_by_cmp}
 use Rattle.std.proofs.lemmas.List.{length-map, take_all}
 use Rattle.std.proofs.lemmas.List.Folds.{list_all-map, list_any_at, list_any_none}
-use Rattle.rss_base.specs.TupleTypes.{kinds, most_fields, are_kinds, is_kind, field_names}
+use Rattle.rss_base.specs.TupleTypes.{form_of, kinds, most_fields, are_kinds, is_kind, field_names}
 use Rattle.rss_base.specs.declared.name.Name.{Name}
+use Rattle.rss_base.specs.declared.value.FieldForm.{FieldForm}
 use Rattle.rss_base.specs.declared.value.FieldKind.TheVariants.{Int}
 use Rattle.rss_base.specs.declared.field.FieldDef.{FieldDef}
 use Rattle.rss_model.specs.Items.{name_cmp}
@@ -45,13 +46,13 @@ named_of_cases name fields true has = sym (sym (any_named (eq_by_cmp name_cmp na
     ∙ list_any_at (λ (field : FieldDef). eq_by_cmp name_cmp name field.name) fields has.0 no_field has.1 (ap (eq_by_cmp name_cmp name) (has.2 no_field) ∙ tied name_total name_apart name))
   where
     no_field : FieldDef
-    no_field = record { name = name; kind = Int }
+    no_field = record { name = name; kind = Int; added = false }
 named_of_cases name fields false none = sym (sym (any_named (eq_by_cmp name_cmp name) fields)
     ∙ list_any_none (λ (field : FieldDef). eq_by_cmp name_cmp name field.name) fields (λ k d low. not_tied name_total name_apart name (get_or fields k d).name (λ same. none k d (omega arith) low (sym same))))
 
 -- so many fields, of such kinds
 pub kinds_formed : (fields : List FieldDef) (each : Bool) → 1 ≤ length fields → length fields ≤ most_fields → each ≡ list_all (λ (field : FieldDef). is_kind field.kind) fields → each ≡ are_kinds (kinds fields)
 kinds_formed fields each some few is =
-    let places : length (kinds fields) ≡ length fields = length-map fields (λ (field : FieldDef). field.kind) in
-    is ∙ sym (list_all-map is_kind (λ (field : FieldDef). field.kind) fields)
-    ∙ (λ i. sym (le-leb 1 (length (kinds fields)) (omega (arith, places, some))) i && sym (le-leb (length (kinds fields)) most_fields (omega (arith, places, few))) i && list_all is_kind (kinds fields))
+    let places : length (kinds fields) ≡ length fields = length-map fields form_of in
+    is ∙ sym (list_all-map (λ (form : FieldForm). is_kind form.kind) form_of fields)
+    ∙ (λ i. sym (le-leb 1 (length (kinds fields)) (omega (arith, places, some))) i && sym (le-leb (length (kinds fields)) most_fields (omega (arith, places, few))) i && list_all (λ (form : FieldForm). is_kind form.kind) (kinds fields))

@@ -9,8 +9,8 @@ use Rattle.rss_base.specs.declared.refusal.Kind.TheVariants.{Image as ImageKind}
 use Rattle.rss_base.specs.declared.relation.RelationEntry.{RelationEntry}
 use Rattle.rss_base.specs.declared.tid.Tid.{Tid}
 use Rattle.rss_catalog.specs.Catalogs.{CatalogView, Lists, page_of}
-use Rattle.rss_model.specs.Store.{IsListedImage}
-use Rattle.rss_model.proofs.ImageFields.{chosen_kinds}
+use Rattle.rss_stored.specs.Store.{IsListedImage}
+use Rattle.rss_stored.proofs.ImageFields.{chosen_kinds}
 use Rattle.rss_entries.specs.Rooms.{width_of}
 use Rattle.rss_access.specs.Imaging.{IsKeyLong}
 use Rattle.rss_session.specs.Filling.{AreImageEntries}

@@ -10,7 +10,7 @@ use Rattle.rss_base.specs.declared.refusal.Kind.TheVariants.{Image as ImageKind}
 use Rattle.rss_base.specs.declared.relation.RelationEntry.{RelationEntry}
 use Rattle.rss_catalog.specs.Catalogs.{CatalogView, Lists, page_of}
 use Rattle.rss_catalog.proofs.Numbered.{unused_none, with_same}
-use Rattle.rss_model.specs.Store.{IsListedImage}
+use Rattle.rss_stored.specs.Store.{IsListedImage}
 use Rattle.rss_access.proofs.ImageRooms.{image_used}
 use Rattle.rss_session.specs.Filling.{ListsImage}
 

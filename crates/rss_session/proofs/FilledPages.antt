@@ -13,10 +13,10 @@ use Rattle.rss_catalog.specs.Catalogs.{CatalogView, Lists, page_of}
 use Rattle.rss_catalog.proofs.Numbered.{numbered_at}
 use Rattle.rss_model.specs.Meter.{bound_of}
 use Rattle.rss_model.specs.Spares.{bound_by, bound_at, listed_bound, live_of, page_counts}
-use Rattle.rss_model.specs.Store.{IsListedImage}
+use Rattle.rss_stored.specs.Store.{IsListedImage}
 use Rattle.rss_model.proofs.MappedKeys.{same_mapped_of}
 use Rattle.rss_model.proofs.Saving.{more_bound}
-use Rattle.rss_model.proofs.StorePages.{pages_split}
+use Rattle.rss_stored.proofs.StorePages.{pages_split}
 use Rattle.rss_entries.specs.Rooms.{width_of}
 use Rattle.rss_access.specs.Written.{heap_now}
 use Rattle.rss_session.specs.Filling.{pages_for, RoomsImage, HasFewPages, TouchesImages, ListsImage}

@@ -18,10 +18,10 @@ use Rattle.rss_model.specs.Machine.{State}
 use Rattle.rss_model.specs.Meter.{Meter, bound_of, entries_most, pages_of_image, room_number}
 use Rattle.rss_model.specs.Rules.{saved_now, if_no_room_for}
 use Rattle.rss_model.specs.Spares.{bound_by, change_counts}
-use Rattle.rss_model.specs.Store.{Defines, image_definition}
+use Rattle.rss_stored.specs.Store.{Defines, image_definition}
 use Rattle.rss_model.specs.Tables.{RelationDef, ImageDef, Definitions, fields_in}
-use Rattle.rss_model.proofs.ImageFields.{numbers_back}
-use Rattle.rss_model.proofs.Listed.{listed}
+use Rattle.rss_stored.proofs.ImageFields.{numbers_back}
+use Rattle.rss_stored.proofs.Listed.{listed}
 use Rattle.rss_model.proofs.MapSums.{insert_sum}
 use Rattle.rss_value.specs.Numbers.{IsNumberOf}
 use Rattle.rss_entries.specs.Rooms.{width_of}

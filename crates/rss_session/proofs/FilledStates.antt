@@ -12,8 +12,8 @@ use Rattle.rss_base.specs.declared.name.Name.{Name}
 use Rattle.rss_model.specs.Defining.{with_definitions, with_image, image_def}
 use Rattle.rss_model.specs.Kept.{Kept}
 use Rattle.rss_model.specs.Machine.{State}
-use Rattle.rss_model.specs.Store.{SpellsTables, image_definition}
-use Rattle.rss_model.specs.Tables.{Definitions, ImageDef}
+use Rattle.rss_stored.specs.Store.{SpellsTables, image_definition}
+use Rattle.rss_model.specs.Tables.{Tables, ImageDef}
 use Rattle.rss_access.specs.Written.{AreWritten}
 use Rattle.rss_session.specs.Calls.{IsRedefined}
 use Rattle.rss_session.specs.Filling.{HasFewPages, TouchesImages, MayMakeImage}
@@ -34,16 +34,16 @@ module _ {old new : SessionView} (ready : IsReady old) (touches : TouchesImages 
   abbrev call : Call
   call = MakeImage may.name may.relation may.is_unique may.fields
 
-  abbrev definitions : Definitions
-  definitions = with_image state.base.definitions may.name (image_def may.relation may.is_unique may.fields)
+  abbrev next : Tables
+  next = with_definitions (with_image state.base.definitions may.name (image_def may.relation may.is_unique may.fields)) state.base
 
   named : IsName may.name
   named = subst IsName may.plans.named (planned_fits may.plans).name
 
   module _ (spells : SpellsTables new.store.pages.held new.store.catalog.listing (with_definitions (with_image state.base.definitions entry.name (image_definition entry may.plans.within)) state.base)) where
     -- the pages spell what the call makes of the tables
-    spells_so : SpellsTables new.store.pages.held new.store.catalog.listing (with_definitions definitions state.base)
+    spells_so : SpellsTables new.store.pages.held new.store.catalog.listing next
     spells_so = subst (λ (image : Name × ImageDef). SpellsTables new.store.pages.held new.store.catalog.listing (with_definitions (with_image state.base.definitions image.0 image.1) state.base)) (λ i. (may.plans.named i, may.plans.defines i)) spells
 
-    pub image_redefined : IsRedefined new state definitions
-    image_redefined = redefined_touched ready touches told closed kept shows call definitions may.passed named refl written spells_so
+    pub image_redefined : IsRedefined new state next
+    image_redefined = redefined_touched ready touches told closed kept shows call next may.passed named refl written spells_so

@@ -14,7 +14,7 @@ use Rattle.rss_base.specs.declared.relation.RelationEntry.{RelationEntry}
 use Rattle.rss_base.specs.declared.tid.Tid.{Tid}
 use Rattle.rss_catalog.specs.Catalogs.{CatalogView, Lists, page_of}
 use Rattle.rss_model.specs.Defining.{with_definitions, with_image}
-use Rattle.rss_model.specs.Store.{SpellsTables, image_definition}
+use Rattle.rss_stored.specs.Store.{SpellsTables, image_definition}
 use Rattle.rss_entries.specs.Building.{pair_list}
 use Rattle.rss_access.specs.Changes.{both, CanAlter}
 use Rattle.rss_access.specs.Filling.{AreEntries}

@@ -15,7 +15,7 @@ use Rattle.rss_model.specs.Ruled.{HasBothRooms}
 use Rattle.rss_model.specs.Spares.{live_of, listed_bound, page_counts}
 use Rattle.rss_model.specs.Tables.{Tables, tuple_count}
 use Rattle.rss_model.proofs.Heap.{nothing as no_more}
-use Rattle.rss_model.proofs.StorePages.{pages_split}
+use Rattle.rss_stored.proofs.StorePages.{pages_split}
 use Rattle.rss_trans.specs.Transactions.{Transaction, nothing, OpenView, transaction_in, sums_of, any, of_relation}
 use Rattle.rss_trans.specs.Told.{SavePoints, TellsOpen}
 use Rattle.rss_trans.proofs.Told.{none_tells}

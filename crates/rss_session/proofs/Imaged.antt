@@ -11,7 +11,7 @@ use Rattle.rss_base.specs.declared.relation.RelationEntry.{RelationEntry}
 use Rattle.rss_catalog.specs.Catalogs.{HasImageOf}
 use Rattle.rss_model.specs.Defining.{is_image_of}
 use Rattle.rss_model.specs.Items.{name_cmp}
-use Rattle.rss_model.specs.Store.{Defines, IsListedImage, image_definition}
+use Rattle.rss_stored.specs.Store.{Defines, IsListedImage, image_definition}
 use Rattle.rss_model.specs.Tables.{ImageDef, Definitions}
 use Rattle.rss_model.proofs.Codes.{name_total, name_apart}
 use Rattle.rss_model.proofs.Contents.{tied}
@@ -19,9 +19,9 @@ use Rattle.rss_model.proofs.Locking.{any_in}
 use Rattle.rss_model.proofs.LogLists.{by_test, false_true}
 use Rattle.rss_model.proofs.Mixing.{In}
 use Rattle.rss_model.proofs.Redefining.{none_any, in_values}
-use Rattle.rss_model.proofs.Relisted.{number_of}
+use Rattle.rss_stored.proofs.Relisted.{number_of}
 use Rattle.rss_model.proofs.SeenAlike.{got_in}
-use Rattle.rss_model.proofs.Spelled.{named_image}
+use Rattle.rss_stored.proofs.Spelled.{named_image}
 
 valued : (entries : List (Name × ImageDef)) (image : ImageDef) → In image (map (λ e. e.1) entries) → (name : Name) × In (name, image) entries
 valued [] image is = absurd is

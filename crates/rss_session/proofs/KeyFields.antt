@@ -24,7 +24,7 @@ use Rattle.rss_model.specs.Images.{number_from, field_number, numbers_of, key_ki
 use Rattle.rss_model.specs.Items.{is_name, name_cmp}
 use Rattle.rss_model.proofs.Codes.{name_total, name_apart}
 use Rattle.rss_model.proofs.Contents.{tied, not_tied}
-use Rattle.rss_model.proofs.ImageFields.{chosen_kinds}
+use Rattle.rss_stored.proofs.ImageFields.{chosen_kinds}
 use Rattle.rss_model.proofs.LogLists.{by_test, none_some, some_of}
 use Rattle.rss_model.proofs.Named.{apart_once}
 use Rattle.rss_value.specs.Numbers.{IsNumberOf}
@@ -116,7 +116,7 @@ numbers_different fields names known once j k low high same =
     no_name = record { bytes = [] }
 
     no_field : FieldDef
-    no_field = record { name = no_name; kind = Int }
+    no_field = record { name = no_name; kind = Int; added = false }
 
 -- ---- no more of them than the relation has
 

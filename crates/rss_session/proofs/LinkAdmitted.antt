@@ -14,10 +14,10 @@ use Rattle.rss_catalog.proofs.Numbered.{numbered_map}
 use Rattle.rss_model.specs.Machine.{State, now}
 use Rattle.rss_model.specs.Refusals.{link_of, is_same, has_form}
 use Rattle.rss_model.specs.Steps.{unless_open}
-use Rattle.rss_model.specs.Store.{SpellsTables, link_definition, relation_name}
+use Rattle.rss_stored.specs.Store.{SpellsTables, link_definition, relation_name}
 use Rattle.rss_model.specs.Tables.{LinkDef}
 use Rattle.rss_model.proofs.LogLists.{some_of}
-use Rattle.rss_model.proofs.Spelled.{listed_link}
+use Rattle.rss_stored.proofs.Spelled.{listed_link}
 use Rattle.rss_model.proofs.Tests.{goes_on, refuses_at, refuses_unless, passes_unless}
 use Rattle.rss_session.specs.Admissions.{unless_link, link_admission}
 use Rattle.rss_session.specs.Sessions.{SessionView}

@@ -20,12 +20,12 @@ use Rattle.rss_catalog.specs.Catalogs.{HasRoleLeft}
 use Rattle.rss_model.specs.Defining.{is_relation, is_link, has_twice, holds_tuples, is_in_most_links, relations_of_link, if_link_holds_tuples}
 use Rattle.rss_model.specs.Machine.{State, now}
 use Rattle.rss_model.specs.Steps.{refusal}
-use Rattle.rss_model.specs.Store.{SpellsTables, IsListedLink, link_definition, relation_name}
-use Rattle.rss_model.proofs.ByNumber.{relation_named, relation_unnamed}
+use Rattle.rss_stored.specs.Store.{SpellsTables, IsListedLink, link_definition, relation_name}
+use Rattle.rss_stored.proofs.ByNumber.{relation_named, relation_unnamed}
 use Rattle.rss_model.proofs.LogLists.{by_test, some_of}
-use Rattle.rss_model.proofs.Prefixes.{parts_are, tied_by}
-use Rattle.rss_model.proofs.Relisted.{number_of}
-use Rattle.rss_model.proofs.Spelled.{listed_link, name_numbered}
+use Rattle.rss_stored.proofs.Prefixes.{parts_are, tied_by}
+use Rattle.rss_stored.proofs.Relisted.{number_of}
+use Rattle.rss_stored.proofs.Spelled.{listed_link, name_numbered}
 use Rattle.rss_model.proofs.Standing.{or_none}
 use Rattle.rss_model.proofs.Tests.{goes_on, passes_if, passes_unless, refuses_at, refuses_if, refuses_unless}
 use Rattle.rss_access.proofs.Numbered.{entry_at}
@@ -290,6 +290,7 @@ module _ (listing : Listing) where
     parent = by parent are.upper two;
     first = tt;
     last = tt;
+    early = refl;
   }
     where
       by : (parent : Option ℕ) → IfSome parent (λ number. is_some (relation_at listing number) ≡ true) → is_parent_in parent child ≡ false → IfSome parent (λ number. (is_some (relation_at listing number) ≡ true) × (number ≢ child))

@@ -12,14 +12,14 @@ use Rattle.rss_base.specs.declared.link.LinkEntry.{LinkEntry}
 use Rattle.rss_base.specs.declared.name.Name.{Name}
 use Rattle.rss_base.specs.declared.refusal.Kind.TheVariants.{Link as LinkKind}
 use Rattle.rss_catalog.specs.Catalogs.{HasLinkOf, link_page}
-use Rattle.rss_model.specs.Store.{Defines}
+use Rattle.rss_stored.specs.Store.{Defines}
 use Rattle.rss_model.specs.Tables.{Definitions}
-use Rattle.rss_model.proofs.ByNumber.{used_up, some_left}
+use Rattle.rss_stored.proofs.ByNumber.{used_up, some_left}
 use Rattle.rss_model.proofs.Counts.{one_if}
-use Rattle.rss_model.proofs.Listed.{at_place}
-use Rattle.rss_model.proofs.Prefixes.{links_listed}
-use Rattle.rss_model.proofs.Relisted.{number_at, number_within_list}
-use Rattle.rss_model.proofs.Spelled.{listed_link, name_numbered, named_link}
+use Rattle.rss_stored.proofs.Listed.{at_place}
+use Rattle.rss_stored.proofs.Prefixes.{links_listed}
+use Rattle.rss_stored.proofs.Relisted.{number_at, number_within_list}
+use Rattle.rss_stored.proofs.Spelled.{listed_link, name_numbered, named_link}
 
 -- ---- parts in links
 

@@ -18,7 +18,7 @@ use Rattle.rss_link.proofs.TupleSteps.{TuplesStep, told_then, told_before, heaps
 use Rattle.rss_model.specs.Chains.{chain, chain_with, stands_in, HasParent}
 use Rattle.rss_model.specs.Kept.{Kept}
 use Rattle.rss_model.specs.Machine.{State, now}
-use Rattle.rss_model.specs.Store.{relation_name}
+use Rattle.rss_stored.specs.Store.{relation_name}
 use Rattle.rss_model.specs.Tables.{Contents, Tables}
 use Rattle.rss_model.proofs.LogLists.{some_of}
 use Rattle.rss_model.proofs.StepKeeping.{kept_fit}

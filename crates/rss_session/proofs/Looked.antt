@@ -25,9 +25,9 @@ use Rattle.rss_model.specs.Fits.{Fits}
 use Rattle.rss_model.specs.Kept.{Kept}
 use Rattle.rss_model.specs.Machine.{StoreSize, State, now}
 use Rattle.rss_model.specs.Spares.{PageCounts, page_counts, change_counts, HasRoomFor, IsInSession}
-use Rattle.rss_model.specs.Store.{IsListed, SpellsTables}
+use Rattle.rss_stored.specs.Store.{IsListed, SpellsTables}
 use Rattle.rss_model.specs.Tables.{segment_of}
-use Rattle.rss_model.proofs.Listed.{listed, stands_within}
+use Rattle.rss_stored.proofs.Listed.{listed, stands_within}
 use Rattle.rss_model.proofs.StepKeeping.{kept_fit}
 use Rattle.rss_access.specs.Tuples.{body_at, FindsBody}
 use Rattle.rss_tuple.specs.Placing.{IsNameable, IsChosen, IsFree}

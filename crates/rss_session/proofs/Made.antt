@@ -11,12 +11,13 @@ use Rattle.rss_base.specs.declared.log_record.LogRecord.TheVariants as records
 use Rattle.rss_base.specs.declared.refusal.Refusal.{Refusal}
 use Rattle.rss_log.specs.Logs.{free_of}
 use Rattle.rss_model.specs.Changes.{Change}
-use Rattle.rss_model.specs.LogLaws.{IsToldBy}
+use Rattle.rss_stored.specs.LogLaws.{IsToldBy}
 use Rattle.rss_model.specs.Machine.{State}
 use Rattle.rss_model.specs.Meter.{counted, free_between, change_size}
 use Rattle.rss_model.specs.Rules.{saved_now, goes_on, meter_behind}
 use Rattle.rss_model.specs.Ruled.{ruled}
-use Rattle.rss_model.proofs.LogCounting.{change_told_size}
+use Rattle.rss_stored.proofs.Listed.{fields_listed}
+use Rattle.rss_stored.proofs.LogCounting.{change_told_size}
 use Rattle.rss_model.proofs.LogLists.{by_test}
 use Rattle.rss_model.proofs.Ruling.{behind}
 use Rattle.rss_trans.specs.Told.{IsNumbered}
@@ -99,8 +100,8 @@ module _ {old mid : SessionView} {told_change : told.Change} {t : ℕ} (anew : C
     mixed = may.mixed;
   }
 
-  size_is : change_size change ≡ record_size (records.Change change.by told_change)
-  size_is = sym (change_told_size old.store.catalog.listing change.by told_change change may.told.tells may.told.means)
+  size_is : change_size state.base.definitions change ≡ record_size (records.Change change.by told_change)
+  size_is = sym (change_told_size old.store.catalog.listing state.base.definitions (fields_listed shows.store.spells.listed shows.store.spells.defines) change.by told_change change may.told.tells may.told.means)
 
   its : IsNumbered old.store.catalog.listing change.item (relation_told told_change)
   its = numbered_told old.store.catalog.listing change.by change told_change may.told.tells may.told.means
@@ -120,7 +121,7 @@ module _ {old mid : SessionView} {told_change : told.Change} {t : ℕ} (anew : C
   meters = ap (behind saved) on ∙ sym (ap (behind state) off)
 
   ruled_same : (over : ℕ) → ruled change over saved ≡ ruled change over state
-  ruled_same over = λ i. record state { changes = change ∷ state.changes; meter = counted change over (meters i) }
+  ruled_same over = λ i. record state { changes = change ∷ state.changes; meter = counted state.base.definitions change over (meters i) }
 
   pub makes_then : {new : SessionView} → MakesOne new saved change → MakesOne new state change
   makes_then {new = new} made = record {

@@ -7,7 +7,7 @@ use Rattle.rss_base.specs.TupleTypes.{tuple_bytes}
 use Rattle.rss_base.specs.declared.relation.RelationEntry.{RelationEntry}
 use Rattle.rss_base.specs.declared.tid.Tid.{Tid}
 use Rattle.rss_model.specs.Machine.{State, now}
-use Rattle.rss_model.specs.Store.{prefix_of}
+use Rattle.rss_stored.specs.Store.{fields_at, prefix_of}
 use Rattle.rss_model.proofs.RelationLists.{StandsAfter, next_is, next_none}
 use Rattle.rss_model.proofs.StepKeeping.{kept_fit}
 use Rattle.rss_access.specs.Tuples.{body_at, FindsBody, IsNextOf, IsNextBody, FindsNextBody}
@@ -28,7 +28,7 @@ module _ (view : SessionView) (segment number : ℕ) (after : Option Tid) where
   -- a tuple of the relation has its body in the pages
   next_of : (state : State) (relation : RelationEntry) → Shows view state → IsRelationIn view segment number relation → (tid : Tid) → StandsAfter (now state) relation.name after tid → IsNextOf segment number after view.store.pages tid
   next_of state relation shows in_it tid stands = record {
-    rest = prefix_of view.store.catalog.listing (now state).contents number tid ++ tuple_bytes stands.values;
+    rest = prefix_of view.store.catalog.listing (now state).contents number tid ++ tuple_bytes (fields_at view.store.catalog.listing number) stands.values;
     behind = stands.behind;
     body = ap (λ (s : ℕ). body_at view.store.pages s tid) (sym in_it.within) ∙ shows.store.spells.contents.stands number relation tid stands.values in_it.at stands.there;
   }

@@ -16,25 +16,25 @@ use Rattle.rss_base.specs.declared.name.Name.{Name}
 use Rattle.rss_base.specs.declared.refusal.Kind.TheVariants.{Image as ImageKind}
 use Rattle.rss_base.specs.declared.refusal.Refusal.{Refusal}
 use Rattle.rss_base.specs.declared.relation.RelationEntry.{RelationEntry}
-use Rattle.rss_base.specs.declared.value.FieldKind.{FieldKind}
+use Rattle.rss_base.specs.declared.value.FieldForm.{FieldForm}
 use Rattle.rss_base.specs.declared.value.Value.{Value}
 use Rattle.rss_model.specs.Fits.{Fits}
 use Rattle.rss_model.specs.Images.{key_in, numbers_of, unique_images}
 use Rattle.rss_model.specs.Items.{name_cmp, is_name}
 use Rattle.rss_model.specs.Refusals.{first_of}
-use Rattle.rss_model.specs.Store.{Defines, IsListedImage, image_definition}
+use Rattle.rss_stored.specs.Store.{Defines, IsListedImage, image_definition}
 use Rattle.rss_model.specs.Tables.{ImageDef, RelationDef, Definitions, Tables}
 use Rattle.rss_model.proofs.Codes.{name_total, name_apart}
 use Rattle.rss_model.proofs.ImageLists.{T_parts}
-use Rattle.rss_model.proofs.Listed.{at_place, listed}
+use Rattle.rss_stored.proofs.Listed.{at_place, listed}
 use Rattle.rss_model.proofs.LogLists.{by_test}
 use Rattle.rss_model.proofs.Mixing.{In, in_filter, in_left, in_parts, in_right}
-use Rattle.rss_model.proofs.Relisted.{number_of}
+use Rattle.rss_stored.proofs.Relisted.{number_of}
 use Rattle.rss_model.proofs.SeenAlike.{all_below, got_in, not_below}
 use Rattle.rss_model.proofs.Testing.{unique_in}
 use Rattle.rss_catalog.specs.Catalogs.{IsSafeImage}
 use Rattle.rss_access.specs.Moved.{IsImageOf}
-use Rattle.rss_model.proofs.ImageFields.{numbers_back, chosen_kinds}
+use Rattle.rss_stored.proofs.ImageFields.{numbers_back, chosen_kinds}
 use Rattle.rss_session.specs.Uniques.{IsBehind, IsUniqueBehind, AreInOrder, IsBefore, FindsLeast, last_name, defined_image, AreLed, IsNextUnique}
 
 -- ---- images whose names rise
@@ -353,7 +353,7 @@ key_listed fits defines {number = number} {image = image} {relation = relation} 
 
 -- keys are narrow
 pub narrow_key : {listing : Listing} {image : ImageEntry} (safe : IsSafeImage listing image) → key_width (chosen (field_numbers image) (kinds safe.relation.fields)) ≤ most_key_width
-narrow_key {image = image} safe = subst (λ (fields : List FieldKind). key_width fields ≤ most_key_width) (sym (chosen_kinds (field_numbers image) safe.relation.fields)) safe.narrow
+narrow_key {image = image} safe = subst (λ (fields : List FieldForm). key_width fields ≤ most_key_width) (sym (chosen_kinds (field_numbers image) safe.relation.fields)) safe.narrow
 
 -- ---- what each of them is refused for
 

@@ -13,7 +13,7 @@ use Rattle.rss_base.specs.declared.root.Root.{Root}
 use Rattle.rss_base.proofs.Moments.{started, widened, continues, continues_then, rises_since}
 use Rattle.rss_tuple.specs.Heaps.{AreHeaps}
 use Rattle.rss_model.specs.Machine.{State, StoreSize}
-use Rattle.rss_model.specs.Store.{size_of}
+use Rattle.rss_stored.specs.Store.{size_of}
 use Rattle.rss_store.specs.Stores.{StoreView}
 use Rattle.rss_store.specs.Stores.{IsReady as IsStoreReady}
 use Rattle.rss_store.specs.Shown.{Shows as StoreShows, HoldsTables}

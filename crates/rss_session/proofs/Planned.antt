@@ -18,17 +18,17 @@ use Rattle.rss_base.specs.declared.refusal.LimitKind.TheVariants.{Images as Imag
 use Rattle.rss_base.specs.declared.refusal.Refusal.{Refusal}
 use Rattle.rss_base.specs.declared.refusal.Refusal.TheVariants.{NoSuch, NameTaken, Limit}
 use Rattle.rss_base.specs.declared.relation.RelationEntry.{RelationEntry}
-use Rattle.rss_model.specs.Tables.{RelationDef, Definitions}
+use Rattle.rss_model.specs.Tables.{RelationDef, Tables, no_tables}
 use Rattle.rss_model.specs.Images.{numbers_of, key_kinds}
 use Rattle.rss_model.specs.Fits.{is_field_of}
 use Rattle.rss_model.specs.Machine.{State, now}
 use Rattle.rss_model.specs.Defining.{has_twice, refused_if, refused_unless, if_any_open, if_images_used_up, is_relation, is_image, fields_now, image_def}
 use Rattle.rss_model.specs.Steps.{first_of}
-use Rattle.rss_model.specs.Store.{SpellsTables, image_definition, no_tables}
-use Rattle.rss_model.proofs.ByNumber.{relation_named, relation_unnamed, used_up, some_left}
-use Rattle.rss_model.proofs.ImageMade.{image_made_defined}
-use Rattle.rss_model.proofs.ImageRooms.{images_listed}
-use Rattle.rss_model.proofs.Listed.{listed}
+use Rattle.rss_stored.specs.Store.{SpellsTables, image_definition}
+use Rattle.rss_stored.proofs.ByNumber.{relation_named, relation_unnamed, used_up, some_left}
+use Rattle.rss_stored.proofs.ImageMade.{image_made_defined}
+use Rattle.rss_stored.proofs.ImageRooms.{images_listed}
+use Rattle.rss_stored.proofs.Listed.{listed}
 use Rattle.rss_model.proofs.Named.{made_here}
 use Rattle.rss_model.proofs.Tests.{goes_on, passes_if, passes_unless, refuses_at, refuses_if, refuses_unless}
 use Rattle.rss_session.specs.Planning.{plan_tests, PlansImage}
@@ -165,7 +165,7 @@ module _ (listing : Listing) (name : Name) (is_unique : Bool) (fields : List Nam
   defines_so =
       sym (same_Some _ _ (
       sym (made_here finite.empty name (image_def within.name is_unique fields))
-      ∙ ap (λ (d : Definitions). finite.get d.images name) (same_Some _ _ (image_made_defined no_tables.definitions entry within fields taken known))
+      ∙ ap (λ (t : Tables). finite.get t.definitions.images name) (same_Some _ _ (image_made_defined no_tables entry within fields taken known))
       ∙ made_here finite.empty name (image_definition entry within)
       ))
 

@@ -8,7 +8,7 @@ use Rattle.rss_log.specs.Logs.{LogView, HasRecords}
 use Rattle.rss_model.specs.EngineLogs.{EngineLog, all_logged}
 use Rattle.rss_model.specs.Machine.{State}
 use Rattle.rss_model.specs.Meanings.{as_bytes}
-use Rattle.rss_model.specs.Store.{Stored}
+use Rattle.rss_stored.specs.Store.{Stored}
 use Rattle.rss_store.specs.Shown.{HoldsLogged, LeavesStore, Shows}
 use Rattle.rss_store.specs.Stores.{StoreView}
 use Rattle.rss_session.specs.Calls.{StandsBehind}

@@ -14,18 +14,17 @@ use Rattle.rss_base.specs.declared.log_record.LogRecord.TheVariants as records
 use Rattle.rss_base.specs.declared.relation.RelationEntry.{RelationEntry}
 use Rattle.rss_base.specs.declared.root.Root.{Root}
 use Rattle.rss_model.specs.Changes.{Change, maker}
-use Rattle.rss_model.specs.Defining.{with_definitions}
 use Rattle.rss_model.specs.EngineLogs.{EngineLog, all_logged, saved_log, TiesState}
 use Rattle.rss_model.specs.Fits.{Fits}
 use Rattle.rss_model.specs.Machine.{StoreSize, State, IsAtRest, with_changes, now}
 use Rattle.rss_model.specs.Meter.{Stamp, heap_pages, changes_of, changers, checkpoint_size, least_position, free_between}
 use Rattle.rss_model.specs.Spares.{change_counts, live_of, most_of}
 use Rattle.rss_model.specs.Steps.{stamp_by, redefined}
-use Rattle.rss_model.specs.Store.{SpellsTables, size_of}
-use Rattle.rss_model.specs.Tables.{Definitions, Tables, tuple_count}
-use Rattle.rss_model.proofs.ImageRooms.{bound_rises, listed_same, images_few}
-use Rattle.rss_model.proofs.Listed.{heap_is}
-use Rattle.rss_model.proofs.LogOpening.{restart_ties}
+use Rattle.rss_stored.specs.Store.{SpellsTables, size_of}
+use Rattle.rss_model.specs.Tables.{Tables, tuple_count}
+use Rattle.rss_stored.proofs.ImageRooms.{bound_rises, listed_same, images_few}
+use Rattle.rss_stored.proofs.Listed.{heap_is, fields_listed}
+use Rattle.rss_stored.proofs.LogOpening.{restart_ties}
 use Rattle.rss_trans.specs.Transactions.{Transaction, marks_of, Checkpoints}
 use Rattle.rss_trans.specs.Told.{TellsOpen}
 use Rattle.rss_trans.proofs.Told.{none_tells}
@@ -55,14 +54,11 @@ module _ {view : SessionView} (ready : CanSave view) (closed : view.opened.trans
   pub may_redefine : MaySave view
   may_redefine = omega (arith, none_counted view.opened closed, none_changing view.opened closed, free_is, ready.store.log.pages, ready.store.formed.log_least)
 
-  -- ---- the tables with other definitions
+  -- ---- the next tables
 
-  module _ {state : State} {definitions : Definitions} (is : IsRedefined view state definitions) where
-    abbrev tables : Tables
-    tables = with_definitions definitions state.base
-
+  module _ {state : State} {tables : Tables} (is : IsRedefined view state tables) where
     abbrev next : State
-    next = redefined definitions state
+    next = redefined tables state
 
     abbrev store : StandsBehind view.store state
     store = is.behind
@@ -113,12 +109,13 @@ module _ {view : SessionView} (ready : CanSave view) (closed : view.opened.trans
     end_is = omega (arith, ap changers stamps_none, store.tied.ties.meter.end)
 
     ties : TiesState view.store.catalog.listing tables (saved_log log log.end [] []) rested
-    ties = restart_ties view.store.catalog.listing tables rested log.end at_rest_now fits head_is end_is
+    ties = restart_ties view.store.catalog.listing tables rested log.end (fields_listed is.spells.listed is.spells.defines) at_rest_now fits head_is end_is
 
     ties_next : TiesState view.store.catalog.listing (now next) (saved_log log log.end [] []) next
     ties_next = subst (λ (cs : List Change). TiesState view.store.catalog.listing (with_changes tables cs) (saved_log log log.end [] []) (record next { changes = cs })) (sym is.none_changed) (record {
       ties = ties.ties;
       definitions = ties.definitions;
+      fields = ties.fields;
       fits = ties.fits;
       placed = ties.placed;
       own = ties.own;
@@ -182,7 +179,7 @@ module _ {view : SessionView} (ready : CanSave view) (closed : view.opened.trans
             none_survived view.opened closed number,
           )
 
-          images_are : (change_counts definitions next.meter).images ≡ saved_images_with view None
+          images_are : (change_counts tables.definitions next.meter).images ≡ saved_images_with view None
           images_are =
               listed_same is.spells.defines is.spells.listed next.meter
               ∙ bound_same view.store.catalog.listing (most_of view.store.catalog.listing next.meter.traffic) (saved_most view) most_are

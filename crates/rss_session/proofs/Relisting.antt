@@ -16,7 +16,7 @@ use Rattle.rss_base.specs.declared.link.LinkEntry.{LinkEntry}
 use Rattle.rss_base.specs.declared.item.Item.TheVariants.{Tuple as TupleItem, Chain as ChainItem}
 use Rattle.rss_base.specs.declared.name.Name.{Name}
 use Rattle.rss_base.specs.declared.tid.Tid.{Tid}
-use Rattle.rss_base.specs.declared.value.FieldKind.{FieldKind}
+use Rattle.rss_base.specs.declared.value.FieldForm.{FieldForm}
 use Rattle.rss_base.specs.declared.call.Call.{Call}
 use Rattle.rss_model.specs.Chains.{is_there, LinksFit}
 use Rattle.rss_model.specs.Tables.{RelationDef, LinkDef, Definitions, Tables, content, tuple_count}
@@ -24,18 +24,18 @@ use Rattle.rss_model.specs.Changes.{Change}
 use Rattle.rss_model.specs.Machine.{StoreSize, State, with_changes}
 use Rattle.rss_model.specs.Fits.{Fits, IsLive}
 use Rattle.rss_model.specs.Kept.{Kept}
-use Rattle.rss_model.specs.Defining.{defined, with_definitions, relation_def, DefinesNames}
+use Rattle.rss_model.specs.Defining.{defined, with_definitions, originals, relation_def, DefinesNames}
 use Rattle.rss_model.specs.Steps.{refusal}
-use Rattle.rss_model.specs.Store.{SpellsTables, AreNodesWithin, link_definition, size_of}
+use Rattle.rss_stored.specs.Store.{SpellsTables, AreNodesWithin, link_definition, size_of}
 use Rattle.rss_model.proofs.BothRooms.{definitions_keep_rooms}
-use Rattle.rss_model.proofs.ByNumber.{relation_unnamed}
+use Rattle.rss_stored.proofs.ByNumber.{relation_unnamed}
 use Rattle.rss_model.proofs.Counts.{none_counted}
-use Rattle.rss_model.proofs.LinkMade.{HasNoTuples, link_made_spells, link_gone_spells}
+use Rattle.rss_stored.proofs.LinkMade.{HasNoTuples, link_made_spells, link_gone_spells}
 use Rattle.rss_model.proofs.LogLists.{some_of}
 use Rattle.rss_model.proofs.Named.{made_other, gone_other}
 use Rattle.rss_model.proofs.Redefining.{defined_fits, live_defined}
-use Rattle.rss_model.proofs.Relisted.{segment_made_spells, segment_gone_spells, relation_made_spells, relation_gone_spells}
-use Rattle.rss_model.proofs.Spelled.{listed_link}
+use Rattle.rss_stored.proofs.Relisted.{segment_made_spells, segment_gone_spells, relation_made_spells, relation_gone_spells}
+use Rattle.rss_stored.proofs.Spelled.{listed_link}
 use Rattle.rss_model.proofs.StepKeeping.{kept_fit}
 use Rattle.rss_trans.specs.Tables.{told}
 use Rattle.rss_catalog.specs.Catalogs.{CatalogView}
@@ -62,7 +62,7 @@ HasChain tables name parent = is_some (content tables.contents (ChainItem name p
 -- The call defines so, and the pages spell its tables, whose definitions are listed anew. A relation that has a tuple is defined as it was, and so is a link that has a chain.
 pub record IsRelisted (held : Held) (call : Call) (listing : Listing) (tables : Tables) : Type 0 where
   pub definitions : Definitions
-  pub so : defined call tables.definitions ≡ Some definitions
+  pub so : defined call tables ≡ Some (with_definitions definitions tables)
   pub spells : SpellsTables held listing (with_definitions definitions tables)
   pub still : (relation : Name) (tid : Tid) → IsLive tables relation tid → get definitions.relations relation ≡ get tables.definitions.relations relation
   pub linked : (name : Name) (parent : Option Tid) → HasChain tables name parent → get definitions.links name ≡ get tables.definitions.links name
@@ -110,7 +110,7 @@ relisted {tables = tables} spells live links (relation name in_segment fields at
     record {
       definitions = _;
       so = refl;
-      spells = relation_made_spells spells number (entry_of name at fields) (live name) in_segment least fits within refl new;
+      spells = relation_made_spells spells number (entry_of name at (originals fields)) (live name) in_segment least fits within refl new;
       still = λ q tid lives. made_other tables.definitions.relations name (relation_def in_segment fields) q (λ same.
           true≢false (sym (live q tid lives) ∙ ap (λ (n : Name). is_some (get tables.definitions.relations n)) same ∙ new));
       linked = λ q parent there. refl;
@@ -161,7 +161,7 @@ tuples_defined {tables = tables} tuples q tid lives =
     let held = some_of _ lives in
     by (get tables.definitions.relations q) (tuples q tid held.0 held.1).defined
   where
-    by : {fields : List FieldKind} (found : Option RelationDef) → option_map (λ (r : RelationDef). kinds r.fields) found ≡ Some fields → is_some found ≡ true
+    by : {fields : List FieldForm} (found : Option RelationDef) → option_map (λ (r : RelationDef). kinds r.fields) found ≡ Some fields → is_some found ≡ true
     by {fields = fields} None is = absurd (none-some fields is)
     by (Some def) is = refl
 
@@ -305,6 +305,10 @@ module _ {S : Type 0} (pages_view : S → PagesView) {call : Call} {old new : Se
     now_relisted : IsRelisted before.store.pages.held call new.store.catalog.listing state.base
     now_relisted = relisted spells (live_defined (kept_fit state kept).0) (kept_fit state kept).0.links redefines.relists fits_new
 
+    -- the tables that are to be committed
+    abbrev next : Tables
+    next = with_definitions now_relisted.definitions state.base
+
     -- a page that isn't to be written is spelled as it was
     written : AreWritten before.store.pages.held new.store.catalog
     written page low not = elim (cases_eq page redefines.page) [
@@ -325,7 +329,7 @@ module _ {S : Type 0} (pages_view : S → PagesView) {call : Call} {old new : Se
       many : log_pages_least ≤ state.size.log_pages
       many = omega (arith, ap (λ (s : StoreSize). s.log_pages) size_same, ready.store.formed.log_least)
 
-      redefined_before : IsRedefined (with_catalog new.store.catalog before) state now_relisted.definitions
+      redefined_before : IsRedefined (with_catalog new.store.catalog before) state next
       redefined_before = record {
         behind = stands_behind (relisted_only new.store.catalog) shows.store;
         metered = shows.counted.rooms.metered;
@@ -333,15 +337,15 @@ module _ {S : Type 0} (pages_view : S → PagesView) {call : Call} {old new : Se
         none_changed = none_changed shows redefines.closed;
         spells = now_relisted.spells;
         written = written;
-        fit = subst (λ (s : StoreSize). Fits s.slots (with_definitions now_relisted.definitions state.base)) size_same (defined_fits state (kept_fit state kept).0 call now_relisted.definitions passed names now_relisted.so);
-        rooms = definitions_keep_rooms state call now_relisted.definitions kept shows.counted.rooms.metered many passed names now_relisted.so;
+        fit = subst (λ (s : StoreSize). Fits s.slots next) size_same (defined_fits state (kept_fit state kept).0 call next passed names now_relisted.so);
+        rooms = definitions_keep_rooms state call next kept shows.counted.rooms.metered many passed names now_relisted.so;
       }
 
-      -- it may be committed, with the definitions that the call makes
-      pub is_redefined : (definitions : Definitions) → defined call state.base.definitions ≡ Some definitions → IsRedefined after state definitions
-      is_redefined definitions so = subst (λ (d : Definitions). IsRedefined after state d) (same_Some _ _ (sym now_relisted.so ∙ so))
-          (subst (λ (v : SessionView). IsRedefined v state now_relisted.definitions) but_catalog redefined_before)
+      -- the tables that the call makes may be committed
+      pub is_redefined : (tables : Tables) → defined call state.base ≡ Some tables → IsRedefined after state tables
+      is_redefined tables so = subst (λ (t : Tables). IsRedefined after state t) (same_Some _ _ (sym now_relisted.so ∙ so))
+          (subst (λ (v : SessionView). IsRedefined v state next) but_catalog redefined_before)
 
       -- which there are
-      pub defines_some : (definitions : Definitions) × (defined call state.base.definitions ≡ Some definitions)
-      defines_some = (now_relisted.definitions, now_relisted.so)
+      pub defines_some : (tables : Tables) × (defined call state.base ≡ Some tables)
+      defines_some = (next, now_relisted.so)

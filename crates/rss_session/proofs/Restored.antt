@@ -8,7 +8,7 @@ use Rattle.rss_catalog.specs.Catalogs.{CatalogView}
 use Rattle.rss_model.specs.Tables.{Tables}
 use Rattle.rss_model.specs.Changes.{Change, maker, own, kept_to, cut_off}
 use Rattle.rss_model.specs.Kept.{Kept}
-use Rattle.rss_model.specs.LogLaws.{gone_back}
+use Rattle.rss_stored.specs.LogLaws.{gone_back}
 use Rattle.rss_model.specs.Machine.{State}
 use Rattle.rss_model.specs.Meter.{restore_size, with_record}
 use Rattle.rss_model.specs.Spares.{page_counts, change_counts}

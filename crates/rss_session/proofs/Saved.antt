@@ -19,16 +19,16 @@ use Rattle.rss_model.specs.Machine.{State, now}
 use Rattle.rss_model.specs.Meter.{free_between, least_position, changes_of}
 use Rattle.rss_model.specs.Meanings.{as_bytes}
 use Rattle.rss_model.specs.EngineLogs.{EngineLog, lists_now, saved_log, TiesState}
-use Rattle.rss_model.specs.LogLaws.{SavesTie, head_behind}
+use Rattle.rss_stored.specs.LogLaws.{SavesTie, head_behind}
 use Rattle.rss_model.specs.Recovers.{NamesLists}
 use Rattle.rss_model.specs.Rules.{saved_now, if_no_log_room}
 use Rattle.rss_model.specs.Spares.{live_of, page_counts, HasMade, IsInSession}
-use Rattle.rss_model.specs.Store.{size_of}
+use Rattle.rss_stored.specs.Store.{size_of}
 use Rattle.rss_model.proofs.BothRooms.{checkpoints_keep_rooms}
-use Rattle.rss_model.proofs.LogSaving.{checkpoint_ties}
+use Rattle.rss_stored.proofs.LogSaving.{checkpoint_ties}
 use Rattle.rss_model.proofs.Sparing.{session_begins}
 use Rattle.rss_model.proofs.StepKeeping.{kept_fit}
-use Rattle.rss_model.proofs.StorePages.{pages_split}
+use Rattle.rss_stored.proofs.StorePages.{pages_split}
 use Rattle.rss_trans.specs.Transactions.{Transaction, OpenView, is_open, transaction_in, first_position, Checkpoints}
 use Rattle.rss_trans.specs.Told.{TellsOpen}
 use Rattle.rss_trans.proofs.Told.{done, checkpoint_tells}

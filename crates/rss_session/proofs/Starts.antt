@@ -6,7 +6,7 @@ use Rattle.rss_base.specs.Listings.{Listing, image_at, relation_at, ImageFits, I
 use Rattle.rss_base.specs.TupleTypes.{misfit}
 use Rattle.rss_base.specs.declared.name.Name.{Name}
 use Rattle.rss_base.specs.declared.value.Value.{Value}
-use Rattle.rss_base.specs.declared.value.FieldKind.{FieldKind}
+use Rattle.rss_base.specs.declared.value.FieldForm.{FieldForm}
 use Rattle.rss_base.specs.declared.image.ImageEntry.{ImageEntry}
 use Rattle.rss_base.specs.declared.relation.RelationEntry.{RelationEntry}
 use Rattle.rss_base.specs.declared.refusal.Kind.TheVariants.{Image as ImageKind}
@@ -15,7 +15,7 @@ use Rattle.rss_base.specs.declared.refusal.Refusal.TheVariants.{NoSuch, BadTuple
 use Rattle.rss_model.specs.Machine.{State, now}
 use Rattle.rss_model.specs.Refusals.{image_of, unless_key_fits}
 use Rattle.rss_model.specs.Steps.{first_of, unless_open}
-use Rattle.rss_model.specs.Store.{IsListedImage, image_definition}
+use Rattle.rss_stored.specs.Store.{IsListedImage, image_definition}
 use Rattle.rss_model.specs.Tables.{ImageDef}
 use Rattle.rss_model.proofs.Tests.{goes_on, passes_unless}
 use Rattle.rss_catalog.proofs.Numbered.{numbered_map}
@@ -80,7 +80,7 @@ module _ {view : SessionView} {state : State} (shows : Shows view state) (t : �
       by_key : image_admission state t name from ≡ first_of (option_map BadTuple (misfit (kinds_in here.entry its.relation) key) ∷ [])
       by_key =
           key_tested ∙ ap (λ (o : Option (List Value)). first_of (unless_key_fits state (Some (image_definition here.entry its.relation)) o ∷ [])) some
-          ∙ ap (λ (fields : List FieldKind). first_of (option_map BadTuple (misfit fields key) ∷ [])) (kinds_listed (now state) shows.store.spells.listed shows.store.spells.defines listed)
+          ∙ ap (λ (fields : List FieldForm). first_of (option_map BadTuple (misfit fields key) ∷ [])) (kinds_listed (now state) shows.store.spells.listed shows.store.spells.defines listed)
 
       pub starts_from : KeyFits view.store.catalog.listing number key → image_admission state t name from ≡ None
       starts_from fit = by_key ∙ ap (λ (o : Option ℕ). first_of (option_map BadTuple o ∷ [])) (fit here.entry its.relation listed)

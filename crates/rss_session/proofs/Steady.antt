@@ -29,7 +29,7 @@ shows_same marks locks scans shows =
       stored = shows.stored;
       disk = shows.disk;
       tied = record {
-        ties = record { ties = ties.ties; definitions = ties.definitions; fits = ties.fits; placed = ties.placed; own = ties.own; meter = ties.meter };
+        ties = record { ties = ties.ties; definitions = ties.definitions; fields = ties.fields; fits = ties.fits; placed = ties.placed; own = ties.own; meter = ties.meter };
         older = shows.tied.older;
         newer = shows.tied.newer;
         size = shows.tied.size;

@@ -9,9 +9,9 @@ use Rattle.rss_base.specs.declared.change.Change.TheVariants.{Insert, Delete, Up
 use Rattle.rss_base.specs.declared.key.Space.TheVariants.{Image}
 use Rattle.rss_model.specs.Machine.{State}
 use Rattle.rss_model.specs.Spares.{page_counts}
-use Rattle.rss_model.proofs.ImageRooms.{bound_rises}
+use Rattle.rss_stored.proofs.ImageRooms.{bound_rises}
 use Rattle.rss_model.proofs.Sparing.{spare_for_next}
-use Rattle.rss_model.proofs.StorePages.{pages_split}
+use Rattle.rss_stored.proofs.StorePages.{pages_split}
 use Rattle.rss_entries.proofs.Rooms.{room_within}
 use Rattle.rss_access.specs.Changes.{HasRoom, HasRoomFor, Takes}
 use Rattle.rss_store.specs.Changing.{access}

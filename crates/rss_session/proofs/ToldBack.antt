@@ -7,11 +7,11 @@ use Rattle.rss_base.specs.declared.log_record.LogRecord.TheVariants as records
 use Rattle.rss_log.specs.Logs.{HasRecords, bytes_from}
 use Rattle.rss_log.proofs.LogViews.{listed}
 use Rattle.rss_model.specs.EngineLogs.{EngineLog, all_logged}
-use Rattle.rss_model.specs.LogLaws.{TakesBack}
+use Rattle.rss_stored.specs.LogLaws.{TakesBack}
 use Rattle.rss_model.specs.Machine.{State}
 use Rattle.rss_model.specs.Meanings.{Logged, as_bytes}
 use Rattle.rss_model.specs.Records.{Changed}
-use Rattle.rss_model.proofs.LogTurning.{changes_turn_back}
+use Rattle.rss_stored.proofs.LogTurning.{changes_turn_back}
 use Rattle.rss_restart.specs.Walks.{TellsAt}
 use Rattle.rss_store.specs.Changing.{IsOwnAt}
 use Rattle.rss_store.specs.Shown.{HoldsLogged, ShowsBack}

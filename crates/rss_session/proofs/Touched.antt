@@ -20,13 +20,13 @@ use Rattle.rss_base.proofs.Steps.{within}
 use Rattle.rss_catalog.specs.Catalogs.{CatalogView, Lists}
 use Rattle.rss_log.specs.Logs.{LogView, free_of}
 use Rattle.rss_model.specs.Changes.{Change}
-use Rattle.rss_model.specs.Defining.{defined, with_definitions, DefinesNames}
+use Rattle.rss_model.specs.Defining.{defined, DefinesNames}
 use Rattle.rss_model.specs.Fits.{Fits}
 use Rattle.rss_model.specs.Kept.{Kept}
 use Rattle.rss_model.specs.Machine.{StoreSize, State, with_changes}
 use Rattle.rss_model.specs.Steps.{refusal}
-use Rattle.rss_model.specs.Store.{SpellsTables, size_of}
-use Rattle.rss_model.specs.Tables.{Definitions}
+use Rattle.rss_stored.specs.Store.{SpellsTables, size_of}
+use Rattle.rss_model.specs.Tables.{Tables}
 use Rattle.rss_model.proofs.BothRooms.{definitions_keep_rooms}
 use Rattle.rss_model.proofs.Redefining.{defined_fits}
 use Rattle.rss_model.proofs.StepKeeping.{kept_fit}
@@ -149,15 +149,15 @@ module _ {old new : SessionView} (ready : IsReady old) (touches : TouchesImages 
       many = omega (arith, ap (λ (s : StoreSize). s.log_pages) size_same, ready.store.formed.log_least)
 
       -- what a call defines that isn't refused may be committed, where the pages spell it
-      pub redefined_touched : (call : Call) (definitions : Definitions) → refusal state call ≡ None → DefinesNames call → defined call state.base.definitions ≡ Some definitions
-          → AreWritten new.store.pages.held new.store.catalog → SpellsTables new.store.pages.held new.store.catalog.listing (with_definitions definitions state.base) → IsRedefined new state definitions
-      redefined_touched call definitions passed names so written spells = record {
+      pub redefined_touched : (call : Call) (next : Tables) → refusal state call ≡ None → DefinesNames call → defined call state.base ≡ Some next
+          → AreWritten new.store.pages.held new.store.catalog → SpellsTables new.store.pages.held new.store.catalog.listing next → IsRedefined new state next
+      redefined_touched call next passed names so written spells = record {
         behind = stands_behind rebuilt shows.store;
         metered = shows.counted.rooms.metered;
         none_open = none_marked shows closed;
         none_changed = none_changed shows closed;
         spells = spells;
         written = written;
-        fit = subst (λ (n : ℕ). Fits n (with_definitions definitions state.base)) slots_same (defined_fits state (kept_fit state kept).0 call definitions passed names so);
-        rooms = definitions_keep_rooms state call definitions kept shows.counted.rooms.metered many passed names so;
+        fit = subst (λ (n : ℕ). Fits n next) slots_same (defined_fits state (kept_fit state kept).0 call next passed names so);
+        rooms = definitions_keep_rooms state call next kept shows.counted.rooms.metered many passed names so;
       }

@@ -15,10 +15,10 @@ use Rattle.rss_model.specs.Meanings.{SameDefinitions}
 use Rattle.rss_model.specs.Meter.{Traffic, Meter, entries_most, with_traffic, counts_for, changes_of}
 use Rattle.rss_model.specs.Rules.{with_change, saved_now}
 use Rattle.rss_model.specs.Spares.{change_counts, live_of, listed_bound, most_of}
-use Rattle.rss_model.specs.Store.{SpellsTables}
+use Rattle.rss_stored.specs.Store.{SpellsTables}
 use Rattle.rss_model.specs.Tables.{Tables, tuple_count}
-use Rattle.rss_model.proofs.ImageRooms.{listed_same}
-use Rattle.rss_model.proofs.Relisted.{number_of}
+use Rattle.rss_stored.proofs.ImageRooms.{listed_same}
+use Rattle.rss_stored.proofs.Relisted.{number_of}
 use Rattle.rss_access.proofs.Numbered.{entry_at}
 use Rattle.rss_trans.specs.Told.{IsNumbered}
 use Rattle.rss_trans.specs.Transactions.{is_in}
@@ -154,11 +154,11 @@ module _ {view : SessionView} {state : State} (shows : Shows view state) (few_sl
 
   -- a change more, of this number
   module _ (change : Change) (number : Option ℕ) (is : IsNumbered listing change.item number) (meter : Meter) (most : ℕ → ℕ) (same : (other : ℕ) (relation : RelationEntry) → relation_at listing other ≡ Some relation → most_of listing meter.traffic other ≡ most other) where
-    more : (other : ℕ) (relation : RelationEntry) → relation_at listing other ≡ Some relation → most_of listing (with_change change meter).traffic other ≡ most_with number most other
+    more : (other : ℕ) (relation : RelationEntry) → relation_at listing other ≡ Some relation → most_of listing (with_change state.base.definitions change meter).traffic other ≡ most_with number most other
     more other relation at =
         let its = in_relation listing shows.store.spells.listed.relations_once relation.name other (its_number other relation at) change.item number is in
         let was = sym (most_is listing meter.traffic other relation at) ∙ same other relation at in
-        most_is listing (with_change change meter).traffic other relation at
+        most_is listing (with_change state.base.definitions change meter).traffic other relation at
         ∙ by (counts_for change.item relation.name) (meter.traffic relation.name)
         ∙ (λ i. if sym its i then was i + 2 else was i)
         ∙ sym (with_is number most other)
@@ -167,21 +167,21 @@ module _ {view : SessionView} {state : State} (shows : Shows view state) (few_sl
         by true t = omega arith
         by false t = refl
 
-    pub images_more : (change_counts state.base.definitions (with_change change meter)).images ≡ listed_bound listing (most_with number most)
+    pub images_more : (change_counts state.base.definitions (with_change state.base.definitions change meter)).images ≡ listed_bound listing (most_with number most)
     images_more =
-        listed_same shows.store.spells.defines shows.store.spells.listed (with_change change meter)
-        ∙ bound_same listing (most_of listing (with_change change meter).traffic) (most_with number most) more
+        listed_same shows.store.spells.defines shows.store.spells.listed (with_change state.base.definitions change meter)
+        ∙ bound_same listing (most_of listing (with_change state.base.definitions change meter).traffic) (most_with number most) more
 
   -- ---- and so how many pages images may have
 
   pub images_same : (change_counts state.base.definitions state.meter).images ≡ (counts view).images
   images_same = listed_same shows.store.spells.defines shows.store.spells.listed state.meter ∙ bound_same listing (most_of listing state.meter.traffic) (most_in view) most_same
 
-  pub images_with_same : (change : Change) (number : Option ℕ) → IsNumbered listing change.item number → (change_counts state.base.definitions (with_change change state.meter)).images ≡ images_with view number
+  pub images_with_same : (change : Change) (number : Option ℕ) → IsNumbered listing change.item number → (change_counts state.base.definitions (with_change state.base.definitions change state.meter)).images ≡ images_with view number
   images_with_same change number is = images_more change number is state.meter (most_in view) most_same
 
   pub saved_images_same : (change_counts state.base.definitions (saved_now state)).images ≡ saved_images_with view None
   saved_images_same = listed_same shows.store.spells.defines shows.store.spells.listed (saved_now state) ∙ bound_same listing (most_of listing (saved_now state).traffic) (saved_most view) saved_same
 
-  pub saved_with_same : (change : Change) (number : Option ℕ) → IsNumbered listing change.item number → (change_counts state.base.definitions (with_change change (saved_now state))).images ≡ saved_images_with view number
+  pub saved_with_same : (change : Change) (number : Option ℕ) → IsNumbered listing change.item number → (change_counts state.base.definitions (with_change state.base.definitions change (saved_now state))).images ≡ saved_images_with view number
   saved_with_same change number is = images_more change number is (saved_now state) (saved_most view) saved_same

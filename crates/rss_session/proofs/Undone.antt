@@ -16,14 +16,14 @@ use Rattle.rss_base.specs.Listings.{Listing, numbered, relation_at}
 use Rattle.rss_log.specs.Logs.{LogView, free_of}
 use Rattle.rss_model.specs.Changes.{Change, maker, after, kept_to, cut_off}
 use Rattle.rss_model.specs.Kept.{Kept}
-use Rattle.rss_model.specs.LogLaws.{TakesBack}
+use Rattle.rss_stored.specs.LogLaws.{TakesBack}
 use Rattle.rss_model.specs.Machine.{StoreSize, State}
 use Rattle.rss_model.specs.Meanings.{SameDefinitions}
 use Rattle.rss_model.specs.Meter.{counts_for, changes_of}
 use Rattle.rss_model.specs.Spares.{page_counts, TakesTwo, IsInSession}
 use Rattle.rss_model.specs.Tables.{tuple_count}
 use Rattle.rss_model.proofs.Metering.{cut_counts, back_tuples}
-use Rattle.rss_model.proofs.Relisted.{number_of}
+use Rattle.rss_stored.proofs.Relisted.{number_of}
 use Rattle.rss_model.proofs.Sparing.{session_goes_back, spare_for_all}
 use Rattle.rss_trans.specs.declared.noted.Noted.{Noted}
 use Rattle.rss_trans.specs.Transactions.{Transaction, OpenView, is_open, transaction_in, any, change_count, without_newest, newest_after, Steps}

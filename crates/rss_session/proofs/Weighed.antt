@@ -30,9 +30,9 @@ use Rattle.rss_model.specs.Rules.{GoesOn, SavesFirst, NoRoom, NoLogRoom, goes_on
 use Rattle.rss_model.specs.Spares.{live_of}
 use Rattle.rss_model.specs.Records.{is_by}
 use Rattle.rss_model.proofs.BothRooms.{checkpoints_keep_rooms}
-use Rattle.rss_model.proofs.ImageRooms.{bound_rises, images_few}
-use Rattle.rss_model.proofs.Listed.{heap_is}
-use Rattle.rss_model.proofs.LogGrowing.{fits_now}
+use Rattle.rss_stored.proofs.ImageRooms.{bound_rises, images_few}
+use Rattle.rss_stored.proofs.Listed.{heap_is}
+use Rattle.rss_stored.proofs.LogGrowing.{fits_now}
 use Rattle.rss_model.proofs.LogLists.{by_test}
 use Rattle.rss_model.proofs.LogWay.{mixed_now}
 use Rattle.rss_trans.specs.Told.{IsNumbered}
@@ -201,7 +201,7 @@ module _ {view : SessionView} {state : State} (ready : IsReady view) (shows : Sh
       ∙ has_own t shows.listed
       ∙ ap (nat_lt 0) (sym (changes_told view.store.catalog.listing view.opened state.marks shows.listed shows.told t))
 
-  with_one : (change : Change) → changers (with_change change state.meter).stamps ≡ weighing.changers_with view.opened change.by
+  with_one : (change : Change) → changers (with_change state.base.definitions change state.meter).stamps ≡ weighing.changers_with view.opened change.by
   with_one change = ap (λ (b : Bool). if b then changers state.meter.stamps else 1 + changers state.meter.stamps) (has_same change.by)
       ∙ (λ i. if nat_lt 0 (length (transaction_in view.opened change.by).changes) then sym changers_same i else 1 + sym changers_same i)
       ∙ more (nat_lt 0 (length (transaction_in view.opened change.by).changes)) (sums_in view.opened).q
@@ -210,7 +210,7 @@ module _ {view : SessionView} {state : State} (ready : IsReady view) (shows : Sh
       more true n = refl
       more false n = omega arith
 
-  pub needed_same : (change : Change) (size : ℕ) → change_size change ≡ size → log_needed change state.meter ≡ weighing.needed_with view change.by size
+  pub needed_same : (change : Change) (size : ℕ) → change_size state.base.definitions change ≡ size → log_needed state.base.definitions change state.meter ≡ weighing.needed_with view change.by size
   needed_same change size is =
       omega (arith, is, with_one change, count_same, length-map shows.listed stamp_of, length-changes_in shows.listed, ap (λ (cs : List Change). length cs) shows.list.changes_are, ap (λ (ss : List Stamp). length ss) shows.list.stamps_are)
 
@@ -287,20 +287,20 @@ module _ {view : SessionView} {state : State} (ready : IsReady view) (shows : Sh
 -- ---- what comes of a change
 
 -- As it is, a change goes on exactly where the machine lets it.
-pub goes_on_right : (view : SessionView) (state : State) (change : Change) (number : Option ℕ) (size : ℕ) → IsReady view → Shows view state → IsNumbered view.store.catalog.listing change.item number → change_size change ≡ size → goes_on state change ≡ weighing.goes_on view change.by number size
+pub goes_on_right : (view : SessionView) (state : State) (change : Change) (number : Option ℕ) (size : ℕ) → IsReady view → Shows view state → IsNumbered view.store.catalog.listing change.item number → change_size state.base.definitions change ≡ size → goes_on state change ≡ weighing.goes_on view change.by number size
 goes_on_right view state change number size ready shows its is =
     λ i. nat_le (room_same ready shows change number its i) (slots_same ready shows i) && nat_le (needed_same ready shows change size is i) (log_room_same ready shows i)
 
 -- where the pages that are mapped are those that hold something, as on each device that tells its contents
-pub weighs_right : (view : SessionView) (state : State) (change : Change) (number : Option ℕ) (size : ℕ) → IsReady view → Shows view state → ((key : PageKey) → is_some (view.store.pages.held key) ≡ view.store.pages.mapped key) → IsNumbered view.store.catalog.listing change.item number → change_size change ≡ size
+pub weighs_right : (view : SessionView) (state : State) (change : Change) (number : Option ℕ) (size : ℕ) → IsReady view → Shows view state → ((key : PageKey) → is_some (view.store.pages.held key) ≡ view.store.pages.mapped key) → IsNumbered view.store.catalog.listing change.item number → change_size state.base.definitions change ≡ size
     → outcome (ruling state change) ≡ weighed view change.by number size
 weighs_right view state change number size ready shows held_are its is =
     let slots = slots_same ready shows in
     let room = saved_room_same ready shows held_are change number its in
     let needed = needed_same ready shows change size is in
     let free = sym (saved_free_same ready shows) in
-    judged (goes_on state change) (nat_lt state.size.slots (room_with state change (saved_now state))) (nat_le (log_needed change state.meter) (log_room state.size.log_pages (saved_now state)))
-    state.size.slots (room_with state change (saved_now state)) (log_room state.size.log_pages (saved_now state)) (log_needed change state.meter)
+    judged (goes_on state change) (nat_lt state.size.slots (room_with state change (saved_now state))) (nat_le (log_needed state.base.definitions change state.meter) (log_room state.size.log_pages (saved_now state)))
+    state.size.slots (room_with state change (saved_now state)) (log_room state.size.log_pages (saved_now state)) (log_needed state.base.definitions change state.meter)
     ∙ (λ i. if goes_on_right view state change number size ready shows its is i then Ok false
     else (if nat_lt (slots i) (room i) then Err (Full (slots i) (room i))
     else (if nat_le (needed i) (free i) then Ok true else Err (LogFull (free i) (needed i)))))

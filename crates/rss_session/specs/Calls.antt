@@ -11,18 +11,17 @@ use Rattle.rss_base.specs.declared.key.Space.TheVariants.{Overflow}
 use Rattle.rss_base.specs.declared.fault.PageFault.{PageFault}
 use Rattle.rss_base.specs.declared.fault.PageFault.TheVariants.{Device as DeviceFailed, NoMemory}
 use Rattle.rss_model.specs.Changes.{Change, own}
-use Rattle.rss_model.specs.Tables.{Definitions}
+use Rattle.rss_model.specs.Tables.{Tables}
 use Rattle.rss_model.specs.Fits.{Fits}
-use Rattle.rss_model.specs.Defining.{with_definitions}
 use Rattle.rss_model.specs.Machine.{State, now}
 use Rattle.rss_model.specs.Meanings.{SameDefinitions}
 use Rattle.rss_model.specs.Ruled.{HasBothRooms, ruled}
 use Rattle.rss_model.specs.Kept.{Kept, FitMixed, IsMetered}
 use Rattle.rss_model.specs.EngineLogs.{EngineLog}
-use Rattle.rss_model.specs.LogLaws.{IsStoredOf}
+use Rattle.rss_stored.specs.LogLaws.{IsStoredOf}
 use Rattle.rss_model.specs.Steps.{IsOver, MayUndo, undone_to, left_at, restored, gone, committing, redefined}
 use Rattle.rss_model.specs.Spares.{live_of}
-use Rattle.rss_model.specs.Store.{Stored, SpellsTables}
+use Rattle.rss_stored.specs.Store.{Stored, SpellsTables}
 use Rattle.rss_trans.specs.Transactions.{OpenView, Transaction, is_open, transaction_in, without_newest, count_at, Steps}
 use Rattle.rss_store.specs.Changing.{MayMake, IsOwnAt}
 use Rattle.rss_store.specs.Stores.{StoreView}
@@ -109,25 +108,25 @@ pub record StandsBehind (view : StoreView) (state : State) : Type 0 where
   pub logged : HoldsLogged view log
   pub over_is : state.meter.over ≡ mapped_of view.pages.mapped Overflow view.pages.slots
 
--- Nothing is open, and the catalog lists other definitions than before. By its listing the pages spell the committed tables with them, which fit, once its own pages are written; and there is room.
-pub record IsRedefined (view : SessionView) (state : State) (definitions : Definitions) : Type 0 where
+-- Nothing is open, and the catalog lists other definitions than before. By its listing the pages spell the next committed tables, which fit, once its own pages are written; and there is room.
+pub record IsRedefined (view : SessionView) (state : State) (next : Tables) : Type 0 where
   pub behind : StandsBehind view.store state
   pub metered : IsMetered state
   pub none_open : state.marks ≡ map.empty
   pub none_changed : state.changes ≡ []
-  pub spells : SpellsTables view.store.pages.held view.store.catalog.listing (with_definitions definitions state.base)
+  pub spells : SpellsTables view.store.pages.held view.store.catalog.listing next
   pub written : AreWritten view.store.pages.held view.store.catalog
-  pub fit : Fits view.store.root.slots (with_definitions definitions state.base)
-  pub rooms : HasBothRooms (redefined definitions state)
+  pub fit : Fits view.store.root.slots next
+  pub rooms : HasBothRooms (redefined next state)
 
--- at each moment a stop leaves the committed tables with the definitions of before, or with these
+-- at each moment a stop leaves the committed tables of before, or the next ones
 abbrev pub RedefinesTables : SessionView → SessionView → Type 0
 RedefinesTables old new =
-    IsTold old.store.pages.disk → (state : State) (definitions : Definitions)
-    → IsRedefined old state definitions
+    IsTold old.store.pages.disk → (state : State) (next : Tables)
+    → IsRedefined old state next
     → Passes old.store.pages.disk new.store.pages.disk (λ image.
     HoldsTables state.size state.base image
-    ⊎ HoldsTables state.size (with_definitions definitions state.base) image)
+    ⊎ HoldsTables state.size next image)
 
 -- ---- changes
 

@@ -1,5 +1,5 @@
 -- What the calls that define make of a session.
-use Rattle.std.specs.Prelude.{◌≡◌, ◌≢◌, ℕ, ◌<◌, ◌||◌, nat_le, Bool, true, List, Option, Some, None, option_and_then, Result, OnOk, OnErr, ⊤}
+use Rattle.std.specs.Prelude.{◌≡◌, ◌≢◌, ℕ, ◌<◌, ◌||◌, nat_le, Bool, true, false, List, Option, Some, None, option_and_then, Result, OnOk, OnErr, ⊤}
 use Rattle.std.specs.FinMap.{empty}
 use Rattle.rss_base.specs.Sizes.{roles_most, system_pages}
 use Rattle.rss_base.specs.Steps.{PagesView}
@@ -14,9 +14,10 @@ use Rattle.rss_base.specs.declared.call.Call.TheVariants.{MakeSegment, MakeRelat
 use Rattle.rss_base.specs.declared.refusal.Kind.TheVariants.{Segment as SegmentKind, Relation as RelationKind, Link as LinkKind}
 use Rattle.rss_base.specs.declared.refusal.Refusal.{Refusal}
 use Rattle.rss_catalog.specs.Catalogs.{HasRelationIn, HasImageOf, Lists}
+use Rattle.rss_model.specs.Defining.{originals}
 use Rattle.rss_model.specs.Spares.{live_of}
 use Rattle.rss_model.specs.Steps.{refusal}
-use Rattle.rss_model.specs.Store.{relation_name}
+use Rattle.rss_stored.specs.Store.{relation_name}
 use Rattle.rss_trans.specs.Tables.{told}
 use Rattle.rss_session.specs.Admissions.{Tests}
 use Rattle.rss_session.specs.Parts.{view}
@@ -30,7 +31,7 @@ entry_of name segment fields =
 -- the link as it is defined, without chains, by the numbers of its relations
 abbrev pub link_entry : Name → Option ℕ → ℕ → LinkEntry
 link_entry name parent child =
-    record { name = name; parent = parent; child = child; first = None; last = None }
+    record { name = name; parent = parent; child = child; late = false; first = None; last = None }
 
 -- none of the link's relations has tuples
 abbrev pub AreEmpty : Listing → LinkEntry → Type 0
@@ -71,7 +72,7 @@ pub data Relists (old : Listing) : Call → Listing → Type 0 where
       → segment_at old segment ≡ Some in_segment → IsUnlisted RelationKind old name
       → IsLeastUnused RelationKind old number
       → Relists old (MakeRelation name in_segment fields)
-      (with_relation old number (Some (entry_of name segment fields)))
+      (with_relation old number (Some (entry_of name segment (originals fields))))
   drop_segment : (name : Name) (number : ℕ) → segment_at old number ≡ Some name
       → (HasRelationIn old number → ⊥)
       → Relists old (DropSegment name) (with_segment old number None)

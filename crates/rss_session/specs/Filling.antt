@@ -13,7 +13,7 @@ use Rattle.rss_base.specs.declared.refusal.Refusal.{Refusal}
 use Rattle.rss_base.specs.declared.relation.RelationEntry.{RelationEntry}
 use Rattle.rss_base.specs.declared.tid.Tid.{Tid}
 use Rattle.rss_catalog.specs.Catalogs.{CatalogView, Lists, page_of}
-use Rattle.rss_model.specs.Defining.{if_repeated, with_image, image_def}
+use Rattle.rss_model.specs.Defining.{if_repeated, with_definitions, with_image, image_def}
 use Rattle.rss_model.specs.Fits.{tuple_limit}
 use Rattle.rss_model.specs.Kept.{Kept}
 use Rattle.rss_model.specs.Machine.{State}
@@ -134,7 +134,8 @@ abbrev pub FillsImage : SessionView → SessionView → ImageEntry → Type 0
 FillsImage old new entry =
     IsTold old.store.pages.disk → (state : State) → Kept state → Shows old state
     → (may : MayMakeImage old.store.catalog.listing state entry)
-    → IsRedefined new state (with_image state.base.definitions may.name (image_def may.relation may.is_unique may.fields))
+    → IsRedefined new state
+    (with_definitions (with_image state.base.definitions may.name (image_def may.relation may.is_unique may.fields)) state.base)
 
 -- It is listed, and its definition may be committed.
 pub record MakesImage (entry : ImageEntry) (old new : SessionView) : Type 0 where

@@ -11,7 +11,7 @@ use Rattle.rss_base.specs.declared.tid.Tid.{Tid}
 use Rattle.rss_base.specs.declared.value.Value.{Value}
 use Rattle.rss_model.specs.Kept.{Kept}
 use Rattle.rss_model.specs.Machine.{State, now}
-use Rattle.rss_model.specs.Store.{IsListedImage}
+use Rattle.rss_stored.specs.Store.{IsListedImage}
 use Rattle.rss_entries.specs.Seeking.{kinds_in, IsKeyIn, start_bytes}
 use Rattle.rss_access.specs.Imaging.{IsOwner, IsNextEntry}
 pub use Rattle.rss_access.specs.Imaging.{IsKeyLong}

@@ -13,7 +13,7 @@ use Rattle.rss_base.specs.declared.relation.RelationEntry.{RelationEntry}
 use Rattle.rss_model.specs.Defining.{refused_if, refused_unless, if_any_open, unless_relation, unless_fields, is_image, has_twice, if_images_used_up, unless_narrow, image_def}
 use Rattle.rss_model.specs.Images.{key_kinds}
 use Rattle.rss_model.specs.Machine.{State}
-use Rattle.rss_model.specs.Store.{image_definition}
+use Rattle.rss_stored.specs.Store.{image_definition}
 
 -- the tests, in their order
 abbrev pub plan_tests : State → Name → Name → List Name → List (Option Refusal)

@@ -8,8 +8,9 @@ use Rattle.rss_base.specs.declared.name.Name.{Name}
 use Rattle.rss_base.specs.declared.relation.RelationEntry.{RelationEntry}
 use Rattle.rss_model.specs.Kept.{Kept}
 use Rattle.rss_model.specs.Machine.{State}
-use Rattle.rss_model.specs.Store.{IsListedImage}
-use Rattle.rss_model.specs.Tables.{Definitions}
+use Rattle.rss_stored.specs.Store.{IsListedImage}
+use Rattle.rss_model.specs.Defining.{with_definitions}
+use Rattle.rss_model.specs.Tables.{Tables}
 use Rattle.rss_session.specs.Calls.{IsRedefined}
 use Rattle.rss_session.specs.Filling.{TouchesImages}
 use Rattle.rss_session.specs.Sessions.{SessionView, CanSave}
@@ -22,15 +23,16 @@ pub record IsImageNamed (listing : Listing) (name : Name) (number : ℕ) : Type 
   pub at : IsListedImage listing number image relation
   pub named : image.name ≡ name
 
--- the definitions without the image of this name
-abbrev pub without_image : Definitions → Name → Definitions
-without_image definitions name =
-    record definitions { images = map.remove definitions.images name }
+-- the tables without the image of this name
+abbrev pub without_image : Tables → Name → Tables
+without_image tables name = with_definitions (record tables.definitions {
+  images = map.remove tables.definitions.images name;
+}) tables
 
--- Nothing is open, and the definitions without it may be committed, in each state in which the session was.
+-- Nothing is open, and the tables without it may be committed, in each state in which the session was.
 pub record TakesImage (name : Name) (old new : SessionView) : Type 0 where
   pub closed : old.opened.transactions ≡ map.empty
   pub touches : TouchesImages old new
   pub saves : CanSave new
   pub redefines : IsTold old.store.pages.disk → (state : State) → Kept state → Shows old state
-      → IsRedefined new state (without_image state.base.definitions name)
+      → IsRedefined new state (without_image state.base name)

@@ -15,7 +15,7 @@ use Rattle.rss_model.specs.Items.{name_cmp}
 use Rattle.rss_model.specs.Kept.{Kept}
 use Rattle.rss_model.specs.Machine.{State}
 use Rattle.rss_model.specs.Refusals.{if_duplicate}
-use Rattle.rss_model.specs.Store.{Defines, IsListedImage, image_definition}
+use Rattle.rss_stored.specs.Store.{Defines, IsListedImage, image_definition}
 use Rattle.rss_model.specs.Tables.{ImageDef, Definitions}
 use Rattle.rss_session.specs.Sessions.{SessionView}
 use Rattle.rss_session.specs.Shown.{Shows}

@@ -124,5 +124,5 @@ outcome (NoLogRoom free needed) = Err (LogFull free needed)
 abbrev pub RulesSo : SessionView → ℕ → Option ℕ → ℕ → Result Bool Refusal → Type 0
 RulesSo view t number size result =
     IsTold view.store.pages.disk → (state : State) (change : Change)
-    → change.by ≡ t → IsNumbered view.store.catalog.listing change.item number → change_size change ≡ size
-    → Shows view state → outcome (ruling state change) ≡ result
+    → change.by ≡ t → IsNumbered view.store.catalog.listing change.item number
+    → change_size state.base.definitions change ≡ size → Shows view state → outcome (ruling state change) ≡ result

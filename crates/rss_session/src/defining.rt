@@ -39,12 +39,12 @@ impl<S: Saving> Session<S> {
         Ok(())
     }
 
-    /// Defines a relation without tuples. `redefine` commits it.
+    /// Defines a relation without tuples, whose fields are original ones. `redefine` commits it.
     pub fn make_relation(
         &mut self,
         name: &Name,
         segment: &Name,
-        fields: Fields,
+        mut fields: Fields,
     ) -> Result<(), Refusal>
         requires name { IsName name.now }
         requires fields { All IsName (field_names fields) }
@@ -60,6 +60,7 @@ impl<S: Saving> Session<S> {
         if self.store.catalog.is_full(Kind::Relation) {
             return Err(Refusal::Limit(LimitKind::Relations));
         }
+        fields.make_original();
         test_fields(fields.as_slice())?;
         self.store.catalog.add_relation(RelationEntry {
             name: *name,

@@ -48,6 +48,7 @@ impl<S: Saving> Session<S> {
             name: *name,
             parent,
             child,
+            late: false,
             first: None,
             last: None,
         });

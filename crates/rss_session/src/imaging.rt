@@ -5,7 +5,7 @@ ghost use Rattle.rss_base.specs.Runs.{run_pages};
 ghost use Rattle.rss_base.specs.TupleTypes.{kinds, SpellsSome};
 ghost use Rattle.rss_base.specs.declared.image.ImageEntry.{ImageEntry as AnImage};
 ghost use Rattle.rss_base.specs.declared.relation.RelationEntry.{RelationEntry as AnyEntry};
-ghost use Rattle.rss_model.specs.Store.{IsListedImage};
+ghost use Rattle.rss_stored.specs.Store.{IsListedImage};
 ghost use Rattle.rss_access.specs.Imaging.{IsKeyLong};
 ghost use Rattle.rss_session.specs.Imaging.{FindsOwner, FindsNextEntry};
 ghost use Rattle.rss_session.specs.Looks.{LooksOn, CostsNothing, KeepsPages};

@@ -9,8 +9,8 @@ ghost use Rattle.rss_model.specs.Machine.{State};
 ghost use Rattle.rss_model.specs.Kept.{Kept};
 ghost use Rattle.rss_model.specs.Rules.{saved_now};
 ghost use Rattle.rss_model.specs.Steps.{redefined};
-ghost use Rattle.rss_model.specs.Store.{Stored, IsStore};
-ghost use Rattle.rss_model.specs.Tables.{Definitions};
+ghost use Rattle.rss_stored.specs.Store.{Stored, IsStore};
+ghost use Rattle.rss_model.specs.Tables.{Tables};
 ghost use Rattle.rss_trans.specs.Transactions.{Checkpoints};
 ghost use Rattle.rss_store.specs.Commits.{CanCheckpoint, IsSavedStore};
 ghost use Rattle.rss_store.specs.Shown.{Shows as StoreShows};
@@ -57,20 +57,21 @@ impl<S: Saving> Session<S> {
 
     /// Commits what is defined in the catalog now, where no transaction is open: a checkpoint.
     ///
-    /// At each moment a stop leaves the definitions of before or these; after `Ok` the latter.
+    /// At each moment a stop leaves the committed tables of before or the next ones; after `Ok` the
+    /// latter.
     pub fn redefine(&mut self) -> Result<(), PageFault>
         requires ready { CanSave (view S.view self.old) }
         requires closed { (view S.view self.old).opened.transactions ≡ empty }
         requires early { IsEarly (view S.view self.old) largest_checkpoint }
         ensures ready { OnOk result (IsReady (view S.view self.new)) }
         ensures shows { OnOk result (IsTold (view S.view self.old).store.pages.disk
-            → (state : State) (definitions : Definitions)
-            → IsRedefined (view S.view self.old) state definitions
-            → Shows (view S.view self.new) (redefined definitions state)) }
+            → (state : State) (next : Tables)
+            → IsRedefined (view S.view self.old) state next
+            → Shows (view S.view self.new) (redefined next state)) }
         ensures sound { (place : AnyPlace) → result ≡ Err (Damaged place)
             → IsTold (view S.view self.old).store.pages.disk
-            → (state : State) (definitions : Definitions)
-            → IsRedefined (view S.view self.old) state definitions → ⊥ }
+            → (state : State) (next : Tables)
+            → IsRedefined (view S.view self.old) state next → ⊥ }
         ensures moments { RedefinesTables (view S.view self.old) (view S.view self.new) }
         ensures anew { OnOk result (CountsAnew (view S.view self.old) (view S.view self.new)) }
         ensures saved { OnOk result (IsSaved (view S.view self.new).store) }

@@ -2,7 +2,7 @@
 use crate::{FIELD, RELATION, Work, ask, begin, define, end, insert, rate};
 use anyhow::{Result, bail};
 use rss_base::{Call, Name, NameList, Reply, Tuple, Value};
-use rss_model::Engine;
+use rss_stored::Engine;
 use std::alloc::Global;
 use std::time::Instant;
 

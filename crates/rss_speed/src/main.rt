@@ -12,8 +12,8 @@ use crate::images::{Order, measure_image};
 use anyhow::{Result, bail, ensure};
 use rss_base::{Call, FieldDef, FieldKind, Fields, Name, Reply, Tid, Tuple, Value};
 use rss_device::FileDevice;
-use rss_model::{CALLS_MOST, Engine};
 use rss_rsi::{MOST_FRAMES, format, open};
+use rss_stored::{CALLS_MOST, Engine};
 use std::alloc::Global;
 use std::env;
 use std::process::ExitCode;
@@ -74,6 +74,7 @@ pub(crate) fn define<E: Engine>(engine: &mut E, alloc: Global) -> Result<()> {
     fields.push(FieldDef {
         name: FIELD,
         kind: FieldKind::Int,
+        added: false,
     })?;
     ask(engine, &Call::MakeSegment(SEGMENT))?;
     ask(engine, &Call::MakeRelation(RELATION, SEGMENT, fields))?;

@@ -15,9 +15,9 @@ use Rattle.rss_base.specs.declared.root.Root.{Root}
 use Rattle.rss_base.proofs.Steps.{rests, among}
 use Rattle.rss_model.specs.Meanings.{SameDefinitions}
 use Rattle.rss_model.specs.Spares.{page_counts, TakesTwo}
-use Rattle.rss_model.specs.Store.{Stored}
+use Rattle.rss_stored.specs.Store.{Stored}
 use Rattle.rss_model.proofs.Sparing.{takes_two}
-use Rattle.rss_model.proofs.StorePages.{pages_split}
+use Rattle.rss_stored.proofs.StorePages.{pages_split}
 use Rattle.rss_catalog.specs.Catalogs.{HasSystemPages}
 use Rattle.rss_access.specs.Changes.{alter_cost, Makes}
 use Rattle.rss_access.specs.Written.{content_of, AreWritten}

@@ -32,16 +32,17 @@ use Rattle.rss_model.specs.Machine.{StoreSize, State, IsAtRest}
 use Rattle.rss_model.specs.Meanings.{Logged, as_bytes, SameDefinitions}
 use Rattle.rss_model.specs.Meter.{Meter, heap_pages, entries_most, pages_of_image, at_rest}
 use Rattle.rss_model.specs.EngineLogs.{all_logged}
-use Rattle.rss_model.specs.LogLaws.{log_of, IsRested}
+use Rattle.rss_stored.specs.LogLaws.{log_of, IsRested}
 use Rattle.rss_model.specs.Spares.{change_counts}
-use Rattle.rss_model.specs.Store.{Stored, SpellsTables, held_in, meter_of, size_of, pages_of_space, IsStore}
-use Rattle.rss_model.proofs.Listed.{heap_is}
-use Rattle.rss_model.proofs.LogOpening.{rest_ties, restart_ties}
-use Rattle.rss_model.proofs.LogPlaced.{recovered_fit}
-use Rattle.rss_model.proofs.Restarted.{recovered_count}
+use Rattle.rss_stored.specs.Store.{Stored, SpellsTables, held_in, meter_of, size_of, pages_of_space, IsStore}
+use Rattle.rss_stored.proofs.Listed.{heap_is}
+use Rattle.rss_stored.proofs.Listed.{fields_listed}
+use Rattle.rss_stored.proofs.LogOpening.{rest_ties, restart_ties}
+use Rattle.rss_stored.proofs.LogPlaced.{recovered_fit}
+use Rattle.rss_stored.proofs.Restarted.{recovered_count}
 use Rattle.rss_model.proofs.Saving.{more_pages}
-use Rattle.rss_model.proofs.StorePages.{owners_split, pages_split, rest_metered}
-use Rattle.rss_model.proofs.Stores.{same_roots, same_overflow}
+use Rattle.rss_stored.proofs.StorePages.{owners_split, pages_split, rest_metered}
+use Rattle.rss_stored.proofs.Stores.{same_roots, same_overflow}
 use Rattle.rss_access.specs.Changes.{both, CanAlter}
 use Rattle.rss_access.specs.Written.{heap_now}
 use Rattle.rss_restart.specs.Opened.{recovery_of}
@@ -339,7 +340,7 @@ module _ {T : Type 0} {value : T} {stored : Stored} {old : StoreView} {pages : P
     stay = refl;
     spellable = record { bounded = omega arith; fits = tt };
     size = ap size_of read.root_is;
-    ties = restart_ties catalog.listing stored.tables next stored.root.end next_rests (fit_read read) refl refl;
+    ties = restart_ties catalog.listing stored.tables next stored.root.end (fields_listed mid_spells.listed mid_spells.defines) next_rests (fit_read read) refl refl;
     spells = mid_spells;
     written = passes.keeps.written (read_told read) ready.pending_places read.written;
     fit = subst (λ (r : Root). Fits r.slots stored.tables) read.root_is (fit_read read);

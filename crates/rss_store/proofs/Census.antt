@@ -17,9 +17,9 @@ use Rattle.rss_base.specs.Paged.{Held}
 use Rattle.rss_tuple.specs.Checked.{Row, Rows, tuples_of}
 use Rattle.rss_model.specs.Fits.{tuple_limit}
 use Rattle.rss_model.proofs.Counts.{one_if}
-use Rattle.rss_model.proofs.Listed.{at_place}
+use Rattle.rss_stored.proofs.Listed.{at_place}
 use Rattle.rss_model.proofs.LogLists.{some_of}
-use Rattle.rss_model.proofs.Relisted.{number_within_list}
+use Rattle.rss_stored.proofs.Relisted.{number_within_list}
 use Rattle.rss_store.specs.Checks.{begins_with, count_of, seen_of, AreSeen, IsSegmentOf, IsCountOf}
 
 -- a number has a name exactly where it has a relation

@@ -3,7 +3,7 @@ use Rattle.std.proofs.Common.{◌≡◌, ◌≢◌, ⊎_elim, ℕ, ◌+◌, ◌-
 use Rattle.std.specs.Prelude.{is_some}
 use Rattle.std.proofs.lemmas.List.{length-drop}
 use Rattle.rss_base.specs.DiskRule.{Disk, Pages, Told, IsTold, Leaves, SameOff, TornIn, Passes, WritesIn}
-use Rattle.rss_base.specs.Sizes.{system_pages}
+use Rattle.rss_base.specs.Sizes.{format_version, system_pages}
 use Rattle.rss_base.specs.Layout.{slots_at, IsWellFormed}
 use Rattle.rss_base.specs.Listings.{Listing, HoldsListing, catalog_page}
 use Rattle.rss_base.specs.LogRecords as bytes
@@ -35,15 +35,15 @@ use Rattle.rss_model.specs.Records.{Checkpoint, Placed, Listed, changes_in, list
 use Rattle.rss_model.specs.Machine.{State, now as tables_now}
 use Rattle.rss_model.specs.Meanings.{Logged, as_bytes, as_entries, SameDefinitions}
 use Rattle.rss_model.specs.EngineLogs.{EngineLog, all_logged, appended, saved_log, lists_saved, lists_now}
-use Rattle.rss_model.specs.LogLaws.{IsStoredOf}
+use Rattle.rss_stored.specs.LogLaws.{IsStoredOf}
 use Rattle.rss_model.specs.Spares.{HasMade, change_counts, page_counts, IsInSession}
-use Rattle.rss_model.specs.Store.{Stored, SpellsTables, meter_of, size_of, IsStore}
+use Rattle.rss_stored.specs.Store.{Stored, SpellsTables, meter_of, size_of, IsStore}
 use Rattle.rss_model.specs.Fits.{Fits}
 use Rattle.rss_model.proofs.LogAppending.{list_after-append}
-use Rattle.rss_model.proofs.LogPlaced.{bytes_append}
-use Rattle.rss_model.proofs.LogStored.{disk_has_log, disk_has_room}
+use Rattle.rss_stored.proofs.LogPlaced.{bytes_append}
+use Rattle.rss_stored.proofs.LogStored.{disk_has_log, disk_has_room}
 use Rattle.rss_model.proofs.Sparing.{session_begins}
-use Rattle.rss_model.proofs.StorePages.{pages_split}
+use Rattle.rss_stored.proofs.StorePages.{pages_split}
 use Rattle.rss_store.specs.Stores.{StoreView, IsReady, IsSaved, IsLogBehind}
 use Rattle.rss_store.specs.Commits.{HasLogRoom, CanCheckpoint, IsSavedStore, least_mark, Saves}
 use Rattle.rss_store.specs.Selecting.{IsMeant, CanSelect, IsNextStore}
@@ -110,9 +110,9 @@ module _ {view : StoreView} {mid : PagesView} {count : ℕ} (ready : IsReady vie
 
 -- ---- the next root
 
--- the root of a checkpoint at this position: the other map area, and a log from a later head on
+-- the root of a checkpoint at this position: the newest version, the other map area, and a log from a later head on
 abbrev pub saved_root : Root → ℕ → ℕ → ℕ → ℕ → List ℕ → Root
-saved_root root area head checkpoint end tail = record { slots = root.slots; log_pages = root.log_pages; area = area; head = head; checkpoint = checkpoint; end = end; tail = tail }
+saved_root root area head checkpoint end tail = record { version = format_version; slots = root.slots; log_pages = root.log_pages; area = area; head = head; checkpoint = checkpoint; end = end; tail = tail }
 
 pub saved_same : (root : Root) (area checkpoint : ℕ) {head head_too end end_too : ℕ} {tail tail_too : List ℕ} → head ≡ head_too → end ≡ end_too → tail ≡ tail_too → saved_root root area head checkpoint end tail ≡ saved_root root area head_too checkpoint end_too tail_too
 saved_same root area checkpoint heads ends tails = λ i. saved_root root area (heads i) checkpoint (ends i) (tails i)
@@ -171,6 +171,8 @@ module _ {view : StoreView} {marks : List (ℕ × ℕ)} {mid saved : PagesView} 
       let formed = ready.formed in
       let least : head ≤ view.log.end = mark_least view.log.end marks in
       record {
+        version_least = omega arith;
+        version_most = omega arith;
         slots_least = formed.slots_least;
         slots_most = formed.slots_most;
         log_least = formed.log_least;

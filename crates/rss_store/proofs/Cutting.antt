@@ -7,8 +7,8 @@ use Rattle.rss_model.specs.Machine.{with_changes}
 use Rattle.rss_model.specs.Records.{Restore, Abort}
 use Rattle.rss_model.specs.Spares.{change_counts, page_counts, IsInSession}
 use Rattle.rss_model.specs.EngineLogs.{appended}
-use Rattle.rss_model.specs.LogLaws.{RestoreTies, AbortTies}
-use Rattle.rss_model.specs.Store.{SpellsTables}
+use Rattle.rss_stored.specs.LogLaws.{RestoreTies, AbortTies}
+use Rattle.rss_stored.specs.Store.{SpellsTables}
 use Rattle.rss_model.proofs.Metering.{kept_none}
 use Rattle.rss_store.specs.Changing.{CutsAt, CutsAll}
 use Rattle.rss_store.specs.Stores.{StoreView, IsLogBehind, IsReady}

@@ -17,8 +17,8 @@ use Rattle.rss_base.specs.declared.change.Change.TheVariants.{Insert, Delete, Up
 use Rattle.rss_model.specs.Items.{Content}
 use Rattle.rss_model.specs.Changes.{Change}
 use Rattle.rss_model.specs.Meanings.{endless, rootless, SameDefinitions, nameless, item_told, TellsValues, TellsPlace, Means}
-use Rattle.rss_model.specs.LogLaws.{IsToldBy}
-use Rattle.rss_model.proofs.Listed.{at_place}
+use Rattle.rss_stored.specs.LogLaws.{IsToldBy}
+use Rattle.rss_stored.proofs.Listed.{at_place}
 
 -- ---- lists of what has a number
 

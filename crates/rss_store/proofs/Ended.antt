@@ -25,15 +25,15 @@ use Rattle.rss_model.specs.Meter.{end_size}
 use Rattle.rss_model.specs.Machine.{State, with_changes, now}
 use Rattle.rss_model.specs.Meanings.{Logged, as_bytes, SameDefinitions}
 use Rattle.rss_model.specs.EngineLogs.{EngineLog, all_logged, lists_now, appended, written_out}
-use Rattle.rss_model.specs.LogLaws.{IsStoredOf, committed_now}
+use Rattle.rss_stored.specs.LogLaws.{IsStoredOf, committed_now}
 use Rattle.rss_model.specs.Spares.{change_counts, page_counts, IsInSession}
-use Rattle.rss_model.specs.Store.{Stored, SpellsTables, AreNodesWithin, meter_of, size_of, held_in, IsStore}
+use Rattle.rss_stored.specs.Store.{Stored, SpellsTables, AreNodesWithin, meter_of, size_of, held_in, IsStore}
 use Rattle.rss_model.specs.Fits.{Fits}
 use Rattle.rss_model.proofs.LogKeeping.{own_changes, others_changes}
 use Rattle.rss_model.proofs.LogParts.{end_now}
 use Rattle.rss_model.proofs.LogTying.{lone_last}
-use Rattle.rss_model.proofs.LogSteps.{end_ties}
-use Rattle.rss_model.proofs.LogStored.{disk_has_log, disk_has_room}
+use Rattle.rss_stored.proofs.LogSteps.{end_ties}
+use Rattle.rss_stored.proofs.LogStored.{disk_has_log, disk_has_room}
 use Rattle.rss_model.proofs.Sparing.{session_forgets}
 use Rattle.rss_store.specs.Stores.{StoreView, IsReady, IsLogBehind}
 use Rattle.rss_store.specs.Commits.{HasLogRoom, MayCommit}
@@ -45,7 +45,7 @@ use Rattle.rss_store.proofs.Nexts.{length-tail_of, behind_itself, counts_still, 
 
 -- the same root with a log that ends later
 abbrev pub grown : Root → ℕ → List ℕ → Root
-grown root end tail = record { slots = root.slots; log_pages = root.log_pages; area = root.area; head = root.head; checkpoint = root.checkpoint; end = end; tail = tail }
+grown root end tail = record { version = root.version; slots = root.slots; log_pages = root.log_pages; area = root.area; head = root.head; checkpoint = root.checkpoint; end = end; tail = tail }
 
 pub grown_same : (root : Root) {end end_too : ℕ} {tail tail_too : List ℕ} → end ≡ end_too → tail ≡ tail_too → grown root end tail ≡ grown root end_too tail_too
 grown_same root ends tails = λ i. grown root (ends i) (tails i)
@@ -66,6 +66,8 @@ module _ {view : StoreView} {log : LogView} {t at : ℕ} (ready : IsReady view) 
   grown_formed tail is =
       let formed = ready.formed in
       record {
+        version_least = formed.version_least;
+        version_most = formed.version_most;
         slots_least = formed.slots_least;
         slots_most = formed.slots_most;
         log_least = formed.log_least;

@@ -20,7 +20,7 @@ use Rattle.rss_base.specs.Layout.{slots_at}
 use Rattle.rss_base.specs.Listings.{ListingFits, IsPlain, HoldsListing, numbered, segment_at, relation_at, link_at, no_listing, padded, segment_spelled, relation_spelled, catalog_page}
 use Rattle.rss_base.specs.PageMap.{page_count}
 use Rattle.rss_base.specs.Paged.{Held, page_key}
-use Rattle.rss_base.specs.Sizes.{zero_page}
+use Rattle.rss_base.specs.Sizes.{format_version, zero_page}
 use Rattle.rss_base.specs.StoredPages.{mapped_by, held_at}
 use Rattle.rss_shadow.specs.Maps.{HasPage}
 use Rattle.rss_shadow.proofs.Owned.{slot_of-owned, HasPage-mapped}
@@ -29,17 +29,18 @@ use Rattle.rss_page.specs.Slotted.{IsHeapKey}
 use Rattle.rss_tuple.specs.Directory.{homes, overflows, body_by, bodies_of}
 use Rattle.rss_tuple.specs.Heaps.{AreLinked}
 use Rattle.rss_model.specs.Items.{item_cmp}
-use Rattle.rss_model.specs.Tables.{content}
-use Rattle.rss_model.specs.Store.{no_tables, SpellsTables, first_stored as stored, OpensTo}
+use Rattle.rss_model.specs.Tables.{content, no_tables}
+use Rattle.rss_stored.specs.Store.{SpellsTables, first_stored as stored, OpensTo}
 use Rattle.rss_catalog.proofs.Plain.{plain_paths, zeros_past}
-use Rattle.rss_model.proofs.FirstLog.{first_log}
+use Rattle.rss_stored.proofs.FirstLog.{first_log}
 use Rattle.rss_model.proofs.Fitting.{no_tables_fit}
-use Rattle.rss_model.proofs.PlainStores.{plain_images, plain_nodes}
-use Rattle.rss_model.proofs.Listed.{at_place}
+use Rattle.rss_stored.proofs.PlainStores.{plain_images, plain_nodes}
+use Rattle.rss_stored.proofs.Listed.{at_place}
 use Rattle.rss_store.specs.Formatted.{first_root, first_owners, IsFormatted}
 use Rattle.rss_store.proofs.FirstOwners.{owner_first, owner_is}
 use Rattle.rss_store.proofs.Empties.{entry_none, linked_none}
-use Rattle.rss_model.proofs.StorePages.{held_mapped, owners_split, first_room}
+use Rattle.rss_stored.proofs.StorePages.{held_mapped, owners_split, first_room}
+use Rattle.rss_stored.proofs.Versions.{suits_any}
 use Rattle.rss_store.proofs.Looked.{times, times_most}
 use Rattle.rss_store.proofs.Made.{listing_defines}
 use Rattle.rss_store.proofs.Rows.{Each, each_drop, each_take}
@@ -211,6 +212,7 @@ opens_empty slots log_pages pages made =
         spells = spells;
         nodes = plain_nodes slots no_listing_plain;
         fit = no_tables_fit slots;
+        version = suits_any format_version no_listing_fits;
       };
       same_size = refl;
       holds = refl;

@@ -41,6 +41,8 @@ more_zeros before first count contents new room so_far now =
 
 first_formed : (slots log_pages : ℕ) → AreSizes slots log_pages → IsWellFormed (first_root slots log_pages)
 first_formed slots log_pages sizes = record {
+  version_least = omega arith;
+  version_most = omega arith;
   slots_least = sizes.slots_least;
   slots_most = sizes.slots_most;
   log_least = sizes.log_least;

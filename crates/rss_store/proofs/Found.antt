@@ -21,6 +21,7 @@ use Rattle.rss_base.specs.declared.relation.RelationEntry.{RelationEntry}
 use Rattle.rss_base.specs.declared.tid.Tid.{Tid}
 use Rattle.rss_base.specs.declared.item.Item.{Item}
 use Rattle.rss_base.specs.declared.item.Item.TheVariants.{Segment as SegmentItem, Relation as RelationItem, Tuple as TupleItem, Chain as ChainItem, Key as KeyItem}
+use Rattle.rss_base.specs.declared.value.FieldForm.{FieldForm}
 use Rattle.rss_base.specs.declared.value.Value.{Value}
 use Rattle.rss_value.specs.Spelled.{is_spelled}
 use Rattle.rss_value.proofs.Spelling.{is_spelled_exactly}
@@ -36,14 +37,14 @@ use Rattle.rss_model.specs.Items.{Content, Values}
 use Rattle.rss_model.specs.Tables.{RelationDef, ImageDef, Contents, Tables, content, fields_of, segment_of, is_tuple_of, tuple_count}
 use Rattle.rss_model.specs.Fits.{HasContent, IsTupleOf, IsLive, IsIdentifier, Fits, tuple_limit}
 use Rattle.rss_model.specs.Images.{HasKey, KeysFit}
-use Rattle.rss_model.specs.Store.{IsStorePage, IsTupleItem, IsListedImage, AreCounts, AreNodesWithin, Defines, SpellsImages, SpellsTables, IsTupleBody, IsChainItem, image_definition, prefix_of, body_of}
+use Rattle.rss_stored.specs.Store.{IsStorePage, IsTupleItem, IsListedImage, AreCounts, AreNodesWithin, Defines, SpellsImages, SpellsTables, IsTupleBody, IsChainItem, image_definition, prefix_of, fields_at, body_of}
 use Rattle.rss_model.proofs.Codes.{item_total, item_apart, name_total, name_apart}
 use Rattle.rss_model.proofs.Contents.{not_tied}
-use Rattle.rss_model.proofs.Listed.{listed, stands_within, number_within}
+use Rattle.rss_stored.proofs.Listed.{listed, fields_at_is, stands_within, number_within}
 use Rattle.rss_model.proofs.LogLists.{some_of}
 use Rattle.rss_model.proofs.Putting.{same_parts}
-use Rattle.rss_model.proofs.Relisted.{number_within_list}
-use Rattle.rss_model.proofs.Spelled.{named_relation, named_image, listed_link, spelled, tuple_bytes_same}
+use Rattle.rss_stored.proofs.Relisted.{number_within_list}
+use Rattle.rss_stored.proofs.Spelled.{named_relation, named_image, listed_link, spelled, tuple_bytes_same}
 use Rattle.rss_members.specs.Members.{SpellsMembers}
 use Rattle.rss_members.proofs.Prefixed.{long_prefix}
 use Rattle.rss_members.proofs.Gathered.{StandsIn, IsBodyOfTuple, SpellsTuples, chains_had}
@@ -52,13 +53,14 @@ use Rattle.rss_entries.specs.Seeking.{AreSingle}
 use Rattle.rss_access.specs.Bodies.{is_body, is_values_of}
 use Rattle.rss_access.specs.Changes.{AccessView}
 use Rattle.rss_access.specs.Checking.{ShowsTuples}
+use Rattle.rss_access.proofs.Bodied.{body_is}
 use Rattle.rss_access.proofs.Looking.{single}
 use Rattle.rss_access.proofs.NodesReached.{all_within}
 use Rattle.rss_store.specs.Checks.{count_of, IsSegmentOf, AreSound, ChecksImages, ChecksLinks}
 use Rattle.rss_store.specs.Looks.{HoldsTables, HoldsNone}
 use Rattle.rss_store.proofs.Empties.{entry_none, linked_none}
 use Rattle.rss_store.proofs.Made.{definitions_of, listing_defines, listing_fits}
-use Rattle.rss_model.proofs.ListedOnce.{listing_once}
+use Rattle.rss_stored.proofs.ListedOnce.{listing_once}
 use Rattle.rss_store.proofs.Rows.{IsAt, IsNamedIn, AreGood, Spot, values_in, named_by, held_by, item_of, contents_of, spots_of, spots_at, each_among, none_of, same_number, same_relation, relation_body, body_of_bytes, body_at_spot, found_at, found_spot, relation_counted}
 
 -- ---- identifiers, and numbers of segments
@@ -154,6 +156,7 @@ module _ (held : Held) (slots : ℕ) (listing : Listing) (fits : ListingFits lis
       let parts = same_parts (named_by listing found.0.1.1) relation.name found.0.1.0 tid found.2 in
       let numbers : of.number ≡ number = same_number fits of.number number of.relation relation of.at at (sym of.named ∙ parts.0) in
       let relations : of.relation ≡ relation = same_relation fits of.number number of.relation relation of.at at numbers in
+      let fields : kinds of.relation.fields ≡ fields_at listing number = sym (fields_at_is listing of.number of.relation of.at) ∙ ap (fields_at listing) numbers in
       let segment : found.0.0 ≡ relation.segment = sym of.within ∙ ap (λ (r : RelationEntry). r.segment) relations in
       let same : values_in (kinds of.relation.fields) of.bytes ≡ values = let e : Values (values_in (kinds of.relation.fields) of.bytes) ≡ Values values = sym of.holds ∙ found.3 in cc in record {
         body = found.0.1.1;
@@ -161,7 +164,7 @@ module _ (held : Held) (slots : ℕ) (listing : Listing) (fits : ListingFits lis
         holds = record {
           prefix = of.prefix;
           long = of.long ∙ ap (prefix_size listing.links) numbers;
-          is = of.is ∙ (λ i. numbers i ∷ (of.prefix ++ (of.spelled.same ∙ ap tuple_bytes same) i));
+          is = of.is ∙ (λ i. numbers i ∷ (of.prefix ++ (of.spelled.same ∙ (λ j. tuple_bytes (fields j) (same j))) i));
         };
       }
 
@@ -174,7 +177,7 @@ module _ (held : Held) (slots : ℕ) (listing : Listing) (fits : ListingFits lis
         values = values_in (kinds of.relation.fields) of.bytes;
         at = of.at;
         within = of.within;
-        is = record { prefix = of.prefix; long = of.long; is = of.is ∙ ap (λ (bytes : List ℕ). of.number ∷ (of.prefix ++ bytes)) of.spelled.same };
+        is = record { prefix = of.prefix; long = of.long; is = of.is ∙ ap (λ (bytes : List ℕ). of.number ∷ (of.prefix ++ bytes)) (of.spelled.same ∙ ap (λ (fields : List FieldForm). tuple_bytes fields (values_in (kinds of.relation.fields) of.bytes)) (sym (fields_at_is listing of.number of.relation of.at))) };
         storable = of.spelled.storable;
         holds = ap (λ (name : Name). content found_tables.contents (TupleItem name tid)) (sym of.named) ∙ found_at found_good segment tid body is ∙ ap Some of.holds;
       }
@@ -410,11 +413,12 @@ module _ {held : Held} {slots : ℕ} {listing : Listing} {tables : Tables} (allo
   good_body : (segment : ℕ) (tid : Tid) (body : List ℕ) → bodies_of held segment tid ≡ Some body → is_body listing segment body ≡ true
   good_body segment tid body is =
       let of = spells.contents.bodies_are segment tid body is in
-      let spelled = (is_spelled_exactly (kinds of.relation.fields) (tuple_bytes of.values)).1 (of.values, record { fit = fits_listed of.number of.relation tid of.values of.at of.holds; storable = of.storable; same = refl }) in
-      ap (is_body listing segment) of.is
-      ∙ body_of_bytes listing segment of.number (prefix_of listing tables.contents of.number tid) (tuple_bytes of.values) (long_prefix tables.contents of.number tid listing.links)
-      ∙ ap (λ (found : Option RelationEntry). is_values_of found segment (tuple_bytes of.values)) of.at
-      ∙ and_from (of.relation.segment == segment) (is_spelled (kinds of.relation.fields) (tuple_bytes of.values)) (eq-eqb of.relation.segment segment of.within) spelled
+      let bytes : List ℕ = tuple_bytes (kinds of.relation.fields) of.values in
+      let spelled = (is_spelled_exactly (kinds of.relation.fields) bytes).1 (of.values, record { fit = fits_listed of.number of.relation tid of.values of.at of.holds; storable = of.storable; same = refl }) in
+      ap (is_body listing segment) (of.is ∙ body_is listing tables.contents of.number of.relation of.at tid of.values)
+      ∙ body_of_bytes listing segment of.number (prefix_of listing tables.contents of.number tid) bytes (long_prefix tables.contents of.number tid listing.links)
+      ∙ ap (λ (found : Option RelationEntry). is_values_of found segment bytes) of.at
+      ∙ and_from (of.relation.segment == segment) (is_spelled (kinds of.relation.fields) bytes) (eq-eqb of.relation.segment segment of.within) spelled
 
   spelled_good : AreGood listing held slots
   spelled_good = record { fits = spells.listed; good = good_body; named = named_in held slots allowed }
@@ -424,16 +428,17 @@ module _ {held : Held} {slots : ℕ} {listing : Listing} {tables : Tables} (allo
   same_read segment tid body of good =
       let read = relation_body listing segment body good in
       let prefix : List ℕ = prefix_of listing tables.contents of.number tid in
-      let whole : read.number ∷ (read.prefix ++ read.bytes) ≡ of.number ∷ (prefix ++ tuple_bytes of.values) = sym read.is ∙ of.is in
+      let its_bytes : List ℕ = tuple_bytes (kinds of.relation.fields) of.values in
+      let whole : read.number ∷ (read.prefix ++ read.bytes) ≡ of.number ∷ (prefix ++ its_bytes) = sym read.is ∙ of.is ∙ body_is listing tables.contents of.number of.relation of.at tid of.values in
       let numbers : read.number ≡ of.number = cc in
-      let rest : read.prefix ++ read.bytes ≡ prefix ++ tuple_bytes of.values = cc in
-      let bytes : read.bytes ≡ tuple_bytes of.values =
+      let rest : read.prefix ++ read.bytes ≡ prefix ++ its_bytes = cc in
+      let bytes : read.bytes ≡ its_bytes =
       sym (drop_at read.prefix read.bytes (prefix_size listing.links of.number) (read.long ∙ ap (prefix_size listing.links) numbers))
       ∙ ap (drop (prefix_size listing.links of.number)) rest
-      ∙ drop_at prefix (tuple_bytes of.values) (prefix_size listing.links of.number) (long_prefix tables.contents of.number tid listing.links) in
+      ∙ drop_at prefix its_bytes (prefix_size listing.links of.number) (long_prefix tables.contents of.number tid listing.links) in
       let relations : read.relation ≡ of.relation = same_relation spells.listed read.number of.number read.relation of.relation read.at of.at numbers in
       let fitting : misfit (kinds read.relation.fields) of.values ≡ None = ap (λ (r : RelationEntry). misfit (kinds r.fields) of.values) relations ∙ fits_listed of.number of.relation tid of.values of.at of.holds in
-      let values = tuple_bytes_same 1 (kinds read.relation.fields) (values_in (kinds read.relation.fields) read.bytes) of.values read.spelled.fit fitting read.spelled.storable of.storable (sym read.spelled.same ∙ bytes) in
+      let values = tuple_bytes_same 1 (kinds read.relation.fields) (values_in (kinds read.relation.fields) read.bytes) of.values read.spelled.fit fitting read.spelled.storable of.storable (sym read.spelled.same ∙ bytes ∙ ap (λ (r : RelationEntry). tuple_bytes (kinds r.fields) of.values) (sym relations)) in
       (read.named ∙ ap (λ (r : RelationEntry). r.name) relations, read.holds ∙ ap Values values)
 
   -- a tuple that is found is there

@@ -24,9 +24,9 @@ use Rattle.rss_tuple.specs.Checked.{pages_of, IsNoted, AreNoted}
 use Rattle.rss_catalog.specs.Catalogs.{CatalogView, Loads, IsCatalogPlace}
 use Rattle.rss_access.specs.Changes.{both}
 use Rattle.rss_access.proofs.Looking.{heaps_looked}
-use Rattle.rss_model.specs.Store.{IsStorePage}
+use Rattle.rss_stored.specs.Store.{IsStorePage}
 use Rattle.rss_model.proofs.LogLists.{some_of}
-use Rattle.rss_model.proofs.Relisted.{number_within_list}
+use Rattle.rss_stored.proofs.Relisted.{number_within_list}
 use Rattle.rss_store.specs.Checks.{IsSegmentOf, ChecksSegment, MissesSegment, ChecksSegments, MissesOne, ChecksLinks, MissesLinks, ChecksImages, MissesImages}
 use Rattle.rss_store.specs.Looks.{FindsTables, FindsNone, AreAllNoted}
 use Rattle.rss_store.proofs.Found.{heap_listed, linked_found, holds_found, spelled_segment, none_by, shows_spelled, sound_spelled, links_spelled}

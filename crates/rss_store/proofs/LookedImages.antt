@@ -33,8 +33,8 @@ use Rattle.rss_entries.proofs.Showing.{same_entry, at_same}
 use Rattle.rss_entries.proofs.Standing.{contained}
 use Rattle.rss_model.specs.Fits.{IsIdentifier}
 use Rattle.rss_model.specs.Tables.{Tables}
-use Rattle.rss_model.specs.Store.{IsListedImage, IsReached, SpellsContents, SpellsImage, nodes_of}
-use Rattle.rss_model.proofs.ImagePages.{pages_once}
+use Rattle.rss_stored.specs.Store.{IsListedImage, IsReached, SpellsContents, SpellsImage, nodes_of}
+use Rattle.rss_stored.proofs.ImagePages.{pages_once}
 use Rattle.rss_model.proofs.LogLists.{some_of}
 use Rattle.rss_model.proofs.MappedKeys.{mapped_at_most}
 use Rattle.rss_model.proofs.Mixing.{In, in_left, in_right, in_parts}

@@ -23,15 +23,15 @@ use Rattle.rss_model.specs.Tables.{RelationDef, ImageDef, LinkDef, Definitions}
 use Rattle.rss_model.specs.Chains.{has_part, parts_of}
 use Rattle.rss_model.specs.Images.{field_number, numbers_of}
 use Rattle.rss_model.specs.Fits.{DefinitionsFit, PathsFit, RelationFits, ImageFits, LinkFits, is_field_of}
-use Rattle.rss_model.specs.Store.{Defines, DefinesPaths, IsListedImage, IsListedLink, definition_of, image_definition, link_definition, relation_name as name_at}
-use Rattle.rss_model.proofs.ByNumber.{len_listed, relations_listed}
-use Rattle.rss_model.proofs.ImageFields.{fields_are, numbers_are, width_is}
-use Rattle.rss_model.proofs.ImageRooms.{images_listed}
-use Rattle.rss_model.proofs.Listed.{IsListOf, at_place, segments_listed, listed}
+use Rattle.rss_stored.specs.Store.{Defines, DefinesPaths, IsListedImage, IsListedLink, definition_of, image_definition, link_definition, relation_name as name_at}
+use Rattle.rss_stored.proofs.ByNumber.{len_listed, relations_listed}
+use Rattle.rss_stored.proofs.ImageFields.{fields_are, numbers_are, width_is}
+use Rattle.rss_stored.proofs.ImageRooms.{images_listed}
+use Rattle.rss_stored.proofs.Listed.{IsListOf, at_place, segments_listed, listed}
 use Rattle.rss_model.proofs.Named.{made, made_here, made_other}
-use Rattle.rss_model.proofs.Relisted.{number_of}
-use Rattle.rss_model.proofs.Spelled.{name_numbered, named_relation, named_image, named_link, listed_link}
-use Rattle.rss_model.proofs.Prefixes.{links_listed, links_sum, parts_are}
+use Rattle.rss_stored.proofs.Relisted.{number_of}
+use Rattle.rss_stored.proofs.Spelled.{name_numbered, named_relation, named_image, named_link, listed_link}
+use Rattle.rss_stored.proofs.Prefixes.{links_listed, links_sum, parts_are}
 use Rattle.rss_model.proofs.Codes.{name_total, name_apart}
 use Rattle.rss_model.proofs.Contents.{not_tied}
 use Rattle.rss_model.proofs.LogLists.{some_of}
@@ -137,7 +137,7 @@ link_name link = link.name
 
 -- a link, where the relation of its children is listed
 abbrev link_of : Listing → LinkEntry → Option RelationEntry → LinkDef
-link_of listing link None = record { parent = None; child = record { bytes = [] } }
+link_of listing link None = record { parent = None; child = record { bytes = [] }; late = link.late }
 link_of listing link (Some child) = link_definition listing link child
 
 abbrev link_def : Listing → LinkEntry → LinkDef
@@ -310,11 +310,11 @@ module _ {listing : Listing} (fits : ListingFits listing) where
           other_back : (number : ℕ) (relation : RelationEntry) → relation_at listing number ≡ Some relation → is_name relation.name name ≡ false
           other_back number relation at = not_tied name_total name_apart relation.name name (λ same. true≢false (sym (ap (λ (n : Name). is_some (map.get definitions.relations n)) (sym same) ∙ relation_there number relation at) ∙ none))
 
-          by : (parent : Option ℕ) → link.parent ≡ parent → has_part name (record { parent = option_and_then (name_at listing) parent; child = child.name }) ≡ false
+          by : (parent : Option ℕ) → link.parent ≡ parent → has_part name (record { parent = option_and_then (name_at listing) parent; child = child.name; late = link.late }) ≡ false
           by None is = ap (λ (t : Bool). t || false) (other link.child child its_link.within)
           by (Some n) is =
               let there = above n is in
-              ap (λ (o : Option RelationEntry). has_part name (record { parent = option_map (λ relation. relation.name) o; child = child.name })) there.1
+              ap (λ (o : Option RelationEntry). has_part name (record { parent = option_map (λ relation. relation.name) o; child = child.name; late = link.late })) there.1
               ∙ (λ i. other link.child child its_link.within i || other_back n there.0 there.1 i)
 
     link_found : (name : Name) (definition : LinkDef) → map.get definitions.links name ≡ Some definition → LinkFits definitions definition

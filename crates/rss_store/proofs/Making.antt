@@ -17,7 +17,7 @@ use Rattle.rss_model.specs.Kept.{up_to, FitMixed}
 use Rattle.rss_model.specs.Records.{Changed}
 use Rattle.rss_model.specs.Spares.{ChangeCounts, change_counts, page_counts, with_one, IsInSession}
 use Rattle.rss_model.specs.EngineLogs.{appended}
-use Rattle.rss_model.specs.LogLaws.{IsStoredOf, ChangeTies, noted}
+use Rattle.rss_stored.specs.LogLaws.{IsStoredOf, ChangeTies, noted}
 use Rattle.rss_model.proofs.LogLists.{by_same}
 use Rattle.rss_model.proofs.Mixing.{own_here, own_off, up_skip, up_take}
 use Rattle.rss_model.proofs.Sparing.{session_changes}
@@ -112,7 +112,7 @@ module _ {T : Type 0} (told_change : told.Change) (old new : StoreView) {value :
   pub makes_one : MakesOne new state change
   makes_one = record {
     over = over;
-    allowed = subst (λ (before : ℕ). MayLead (with_changes state.base (change ∷ state.changes)) change.item change.old change.new before over) (sym shown.over_is) (alters_leads (access old) (access new) told_change makes.step makes.alters told (now state) change can);
+    allowed = subst (λ (before : ℕ). MayLead (now state) (with_changes state.base (change ∷ state.changes)) change.item before over) (sym shown.over_is) (alters_leads (access old) (access new) told_change makes.step makes.alters told (now state) change can);
     shows = record {
       log = appended shown.log (records.Change change.by told_change) (Changed change);
       stored = shown.stored;

@@ -16,7 +16,7 @@ use Rattle.rss_log.specs.Logs.{LogView, IsLog, bytes_from, piece_start, tail_of}
 use Rattle.rss_buffer.specs.Slots.{fixed_by}
 use Rattle.rss_buffer.specs.Saving.{SavingView, AreSaveable}
 use Rattle.rss_model.specs.Spares.{page_counts}
-use Rattle.rss_model.specs.Store.{Stored, IsStore}
+use Rattle.rss_stored.specs.Store.{Stored, IsStore}
 use Rattle.rss_access.specs.Changes.{CanAlter}
 use Rattle.rss_store.specs.Changing.{access}
 use Rattle.rss_catalog.specs.Catalogs.{HasSystemPages}

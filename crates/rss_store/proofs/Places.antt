@@ -24,9 +24,10 @@ use Rattle.rss_buffer.specs.Saved.{IsSaveable}
 use Rattle.rss_buffer.proofs.Saves.{same_saves, holds_pages}
 use Rattle.rss_buffer.proofs.Stops.{fixed_holds, saving_holds, switching_holds, other_root}
 use Rattle.rss_model.specs.Meanings.{as_bytes}
-use Rattle.rss_model.specs.LogLaws.{HoldsLog}
-use Rattle.rss_model.specs.Store.{Stored, SpellsTables, held_in, AreNodesWithin, IsStore}
-use Rattle.rss_model.proofs.StorePages.{held_mapped}
+use Rattle.rss_stored.specs.LogLaws.{HoldsLog}
+use Rattle.rss_stored.specs.Store.{Stored, SpellsTables, held_in, AreNodesWithin, IsStore}
+use Rattle.rss_stored.proofs.StorePages.{held_mapped}
+use Rattle.rss_stored.proofs.Versions.{suits_any}
 use Rattle.rss_store.specs.Selecting.{IsMeant}
 
 -- ---- a store by its places and its meaning
@@ -92,6 +93,7 @@ store_of {pages = pages} {stored = stored} {held = held} holds log meant =
       fit = meant.fit;
       log = meant.log pages log;
       room = meant.room;
+      version = suits_any stored.root.version meant.spells.listed;
     }
 
 -- ---- where the log pages lie

@@ -23,9 +23,9 @@ use Rattle.rss_buffer.proofs.SavingSteps.{fresh_unchanged}
 use Rattle.rss_catalog.specs.Catalogs.{CatalogView}
 use Rattle.rss_log.specs.Logs.{LogView}
 use Rattle.rss_model.specs.Fits.{Fits, IsIdentifier}
-use Rattle.rss_model.specs.Store.{SpellsTables, AreNodesWithin, Stored, IsStore}
-use Rattle.rss_model.proofs.ListedOnce.{listing_once}
-use Rattle.rss_model.proofs.Stores.{one_root, one_map}
+use Rattle.rss_stored.specs.Store.{SpellsTables, AreNodesWithin, Stored, IsStore}
+use Rattle.rss_stored.proofs.ListedOnce.{listing_once}
+use Rattle.rss_stored.proofs.Stores.{one_root, one_map}
 use Rattle.rss_access.specs.Changes.{both, HasTables as SomeTables}
 use Rattle.rss_store.specs.Stores.{StoreView, IsReady, IsSaved}
 use Rattle.rss_store.specs.Looks.{HoldsTables as PagesHoldTables, HoldsNone, FindsTables}

@@ -15,10 +15,10 @@ use Rattle.rss_log.proofs.LogViews.{listed}
 use Rattle.rss_model.specs.Records.{LogEntry, Listed}
 use Rattle.rss_model.specs.Recovers.{older_of, first_in, named_in, NamesLists, IsCheckpointOf, BeginsAtCheckpoint}
 use Rattle.rss_model.specs.Meanings.{Logged, as_bytes, as_entries, Says, says_change, says_restore, says_end, says_abort, says_checkpoint}
-use Rattle.rss_model.specs.Store.{Stored, listed_at, IsStore}
-use Rattle.rss_model.specs.LogLaws.{IsRested}
+use Rattle.rss_stored.specs.Store.{Stored, listed_at, IsStore}
+use Rattle.rss_stored.specs.LogLaws.{IsRested}
 use Rattle.rss_model.proofs.LogLists.{all_back}
-use Rattle.rss_model.proofs.LogPlaced.{bytes_append, told_at}
+use Rattle.rss_stored.proofs.LogPlaced.{bytes_append, told_at}
 use Rattle.rss_store.specs.Opening.{RestsAt, NamesNone}
 
 -- ---- lists and the transactions that are named

@@ -22,7 +22,7 @@ use Rattle.rss_base.specs.declared.tid.Tid.{Tid}
 use Rattle.rss_base.specs.declared.item.Item.{Item}
 use Rattle.rss_base.specs.declared.item.Item.TheVariants.{Tuple as TupleItem}
 use Rattle.rss_base.specs.declared.value.Value.{Value}
-use Rattle.rss_base.specs.declared.value.FieldKind.{FieldKind}
+use Rattle.rss_base.specs.declared.value.FieldForm.{FieldForm}
 use Rattle.rss_value.specs.Spelled.{is_spelled}
 use Rattle.rss_value.proofs.Spelling.{is_spelled_exactly}
 use Rattle.rss_tuple.specs.Directory.{Bodies, bodies_of, tid_at}
@@ -34,7 +34,7 @@ use Rattle.rss_model.proofs.Codes.{item_total, item_apart, name_total, name_apar
 use Rattle.rss_model.proofs.Contents.{tied, not_tied, same_item_of, content_put}
 use Rattle.rss_model.proofs.Counts.{one_if, counts_same, counts_put, counts_none}
 use Rattle.rss_model.proofs.Putting.{same_parts}
-use Rattle.rss_model.proofs.Relisted.{number_of}
+use Rattle.rss_stored.proofs.Relisted.{number_of}
 use Rattle.rss_access.specs.Bodies.{is_body, is_values_of}
 use Rattle.rss_store.specs.Checks.{begins_with, count_of}
 
@@ -258,14 +258,14 @@ module _ (held : Held) (slots : ℕ) where
 -- ---- what a body says
 
 -- the values that bytes spell, where they spell some
-abbrev values_if : (fields : List FieldKind) (bytes : List ℕ) (test : Bool) → is_spelled fields bytes ≡ test → List Value
+abbrev values_if : (fields : List FieldForm) (bytes : List ℕ) (test : Bool) → is_spelled fields bytes ≡ test → List Value
 values_if fields bytes true is = ((is_spelled_exactly fields bytes).0 is).0
 values_if fields bytes false is = []
 
-abbrev pub values_in : List FieldKind → List ℕ → List Value
+abbrev pub values_in : List FieldForm → List ℕ → List Value
 values_in fields bytes = values_if fields bytes (is_spelled fields bytes) refl
 
-pub values_spelled : (fields : List FieldKind) (bytes : List ℕ) → is_spelled fields bytes ≡ true → Spells fields bytes (values_in fields bytes)
+pub values_spelled : (fields : List FieldForm) (bytes : List ℕ) → is_spelled fields bytes ≡ true → Spells fields bytes (values_in fields bytes)
 values_spelled fields bytes is = by (is_spelled fields bytes) refl is
   where
     by : (test : Bool) (so : is_spelled fields bytes ≡ test) → test ≡ true → Spells fields bytes (values_if fields bytes test so)

@@ -19,9 +19,9 @@ use Rattle.rss_log.specs.Logs.{LogView, bytes_from, piece_start}
 use Rattle.rss_log.proofs.LogRing.{next_log}
 use Rattle.rss_log.proofs.Growth.{grown}
 use Rattle.rss_model.specs.Meanings.{Logged, as_bytes}
-use Rattle.rss_model.specs.LogLaws.{HoldsLog}
-use Rattle.rss_model.specs.Store.{Stored, IsStore}
-use Rattle.rss_model.proofs.LogPlaced.{bytes_append}
+use Rattle.rss_stored.specs.LogLaws.{HoldsLog}
+use Rattle.rss_stored.specs.Store.{Stored, IsStore}
+use Rattle.rss_stored.proofs.LogPlaced.{bytes_append}
 use Rattle.rss_store.specs.Commits.{IsEndPlace, selector as as_selector, root as as_root, piece as as_piece}
 use Rattle.rss_store.specs.Stores.{StoreView, IsLogBehind, appended_since}
 use Rattle.rss_store.specs.Selecting.{HoldsPiecesWithin, CanSelect, IsNextStore}

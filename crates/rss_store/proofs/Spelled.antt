@@ -9,7 +9,7 @@ use Rattle.rss_base.specs.declared.key.PageKey.{PageKey}
 use Rattle.rss_base.specs.declared.key.Space.TheVariants.{Image, System}
 use Rattle.rss_catalog.specs.Catalogs.{HasSystemPages}
 use Rattle.rss_model.specs.Fits.{IsIdentifier}
-use Rattle.rss_model.specs.Store.{SpellsTables, AreNodesWithin}
+use Rattle.rss_stored.specs.Store.{SpellsTables, AreNodesWithin}
 use Rattle.rss_access.specs.Changes.{AccessView, CanAlter, HasTables}
 use Rattle.rss_access.specs.Written.{content_of}
 use Rattle.rss_access.proofs.Writing.{SameOffSystem, off_system, heaps_same, spells_same}

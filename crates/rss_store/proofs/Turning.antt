@@ -22,8 +22,8 @@ use Rattle.rss_model.specs.Records.{Changed}
 use Rattle.rss_model.specs.Steps.{MayUndo}
 use Rattle.rss_model.specs.Spares.{change_counts, page_counts, IsInSession}
 use Rattle.rss_model.specs.EngineLogs.{EngineLog, all_logged}
-use Rattle.rss_model.specs.LogLaws.{IsToldBy, ChangesTurnBack, TakesBack}
-use Rattle.rss_model.specs.Store.{SpellsTables}
+use Rattle.rss_stored.specs.LogLaws.{IsToldBy, ChangesTurnBack, TakesBack}
+use Rattle.rss_stored.specs.Store.{SpellsTables}
 use Rattle.rss_model.proofs.Mixing.{In}
 use Rattle.rss_model.proofs.Sparing.{session_goes_back}
 use Rattle.rss_access.proofs.Altering.{alters_leads}
@@ -124,8 +124,8 @@ module _ {old : StoreView} (turns : ChangesTurnBack) (ready : IsReady old) (stat
     fewer : length (kept_to maker t (n + 1) state.changes) ≡ length (kept_to maker t n state.changes) + 1
     fewer = one_less t n state.changes back.change back.last
 
-    lead : MayLead (taken_back tables back.change) back.change.item back.change.new back.change.old way.over over
-    lead = subst (λ (before : ℕ). MayLead (taken_back tables back.change) back.change.item back.change.new back.change.old before over) (sym shown.over_is)
+    lead : MayLead tables (taken_back tables back.change) back.change.item way.over over
+    lead = subst (λ (before : ℕ). MayLead tables (taken_back tables back.change) back.change.item before over) (sym shown.over_is)
         (alters_leads (access old) (access new) (reversed back.told_change) makes.step makes.alters on tables (turned back.change) (can_turned can_take_back))
 
     pub takes_one : ShowsBack new state t n
@@ -151,7 +151,7 @@ module _ {old : StoreView} (turns : ChangesTurnBack) (ready : IsReady old) (stat
         over_is = refl;
       };
       way = subst (λ (cs : List Change). MayUndo (now state) cs state.meter.over over) (sym back.last)
-          (undoes_more back.change way.way (subst (λ (c : Contents). MayLead (record (now state) { contents = undo c back.change }) back.change.item back.change.new back.change.old way.over over) (sym (cut_undone t (n + 1) shown.tied.ties)) lead));
+          (undoes_more back.change way.way (subst (λ (c : Contents). MayLead (record (now state) { contents = c }) (record (now state) { contents = undo c back.change }) back.change.item way.over over) (sym (cut_undone t (n + 1) shown.tied.ties)) lead));
     }
 
 -- by the result

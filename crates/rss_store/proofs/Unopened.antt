@@ -17,9 +17,9 @@ use Rattle.rss_base.specs.Layout.{map_at, IsLayoutFault, HasRoot}
 use Rattle.rss_base.specs.PageMap.{page_count, IsMap}
 use Rattle.rss_base.specs.Steps.{device_below}
 use Rattle.rss_base.proofs.Moments.{then, widened, now, continues, continues_then, reads_then, rises_since}
-use Rattle.rss_model.specs.Store.{Stored, IsBrokenAt, IsOverfull}
-use Rattle.rss_model.specs.LogLaws.{IsRested}
-use Rattle.rss_model.proofs.Stores.{one_root, one_map, not_overfull, sound_unbroken, broken_once}
+use Rattle.rss_stored.specs.Store.{Stored, IsBrokenAt, IsOverfull}
+use Rattle.rss_stored.specs.LogLaws.{IsRested}
+use Rattle.rss_stored.proofs.Stores.{one_root, one_map, not_overfull, sound_unbroken, broken_once}
 use Rattle.rss_store.specs.Stores.{StoreView}
 use Rattle.rss_store.specs.Opening.{HasLayout, IsNoStore, IsSpent, IsRefused, IsUnopened, PassesOpening, IsEarlyRefusal, IsHandedBack, IsReadFrom, FindsDamage, Begins, ReadsFrom, OpensStore, position_most}
 

@@ -88,6 +88,6 @@ cut_undone {state = state} t n ties = undo_cut t n state.base.contents state.cha
 
 -- one change more is undone
 pub undoes_more : {tables : Tables} {cs : List Change} {over mid next : ℕ} (c : Change) → MayUndo tables cs over mid
-    → MayLead (record tables { contents = undo (undone tables.contents cs) c }) c.item c.new c.old mid next → MayUndo tables (cs ++ c ∷ []) over next
+    → MayLead (record tables { contents = undone tables.contents cs }) (record tables { contents = undo (undone tables.contents cs) c }) c.item mid next → MayUndo tables (cs ++ c ∷ []) over next
 undoes_more c none lead = more lead none
 undoes_more c (more first rest) lead = more first (undoes_more c rest lead)

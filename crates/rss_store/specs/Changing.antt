@@ -13,7 +13,7 @@ use Rattle.rss_model.specs.Meanings.{SameDefinitions}
 use Rattle.rss_model.specs.Steps.{IsOver, stamp_by}
 use Rattle.rss_model.specs.Kept.{FitMixed}
 use Rattle.rss_model.specs.Restart.{OnlyBy}
-use Rattle.rss_model.specs.LogLaws.{IsToldBy, noted, gone_back, all_back}
+use Rattle.rss_stored.specs.LogLaws.{IsToldBy, noted, gone_back, all_back}
 use Rattle.rss_access.specs.Changes.{AccessView, both, HasRoomFor, alter_cost, Takes}
 use Rattle.rss_access.specs.Written.{content_of}
 use Rattle.rss_restart.specs.Restarting.{KeepsCatalog}

@@ -16,7 +16,7 @@ use Rattle.rss_tuple.specs.Checked.{Row, Rows, tuples_of, IsSound, AreNoted}
 use Rattle.rss_tuple.specs.TupleSteps.{tuples_in}
 use Rattle.rss_model.specs.Fits.{tuple_limit}
 use Rattle.rss_model.specs.Tables.{Tables}
-use Rattle.rss_model.specs.Store.{IsListedImage, IsReached}
+use Rattle.rss_stored.specs.Store.{IsListedImage, IsReached}
 use Rattle.rss_link.specs.declared.link.Relations.{Relations}
 use Rattle.rss_link.specs.Calls.{seen_with}
 use Rattle.rss_link.specs.Checking.{HasChains}

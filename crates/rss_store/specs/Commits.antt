@@ -23,8 +23,8 @@ use Rattle.rss_model.specs.Meter.{free_between}
 use Rattle.rss_model.specs.Kept.{FitMixed, IsMetered}
 use Rattle.rss_model.specs.Meanings.{Logged, as_bytes}
 use Rattle.rss_model.specs.EngineLogs.{EngineLog, all_logged, saved_log, TiesState}
-use Rattle.rss_model.specs.LogLaws.{committed_now}
-use Rattle.rss_model.specs.Store.{Stored, SpellsTables, size_of}
+use Rattle.rss_stored.specs.LogLaws.{committed_now}
+use Rattle.rss_stored.specs.Store.{Stored, SpellsTables, size_of}
 use Rattle.rss_access.specs.Written.{AreWritten, heap_now, is_pending}
 use Rattle.rss_catalog.specs.Catalogs.{CatalogView}
 use Rattle.rss_store.specs.Stores.{StoreView}

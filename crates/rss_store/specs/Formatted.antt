@@ -1,7 +1,7 @@
 -- An empty store, as it is made.
 use Rattle.std.specs.Prelude.{◌≡◌, ℕ, ◌+◌, ◌-◌, ◌<◌, ◌≤◌, List, [], ◌∷◌, ◌++◌, map, replicate, Option, Some, None}
 use Rattle.std.specs.List.{range_with_len}
-use Rattle.rss_base.specs.Sizes.{zero_page, slots_least, slots_most, log_pages_least, log_pages_most, system_pages}
+use Rattle.rss_base.specs.Sizes.{zero_page, format_version, slots_least, slots_most, log_pages_least, log_pages_most, system_pages}
 use Rattle.rss_base.specs.DiskRule.{Disk, Pages, page, Told, LeavesOnly, SameOff, IsWithin}
 use Rattle.rss_base.specs.Layout.{map_at, slots_at, HasRoot}
 use Rattle.rss_base.specs.PageMap.{IsMap}
@@ -20,6 +20,7 @@ pub record AreSizes (slots log_pages : ℕ) : Type 0 where
 -- the root of an empty store: its log has one record, of a checkpoint at which no transaction is open
 abbrev pub first_root : ℕ → ℕ → Root
 first_root slots log_pages = record {
+  version = format_version;
   slots = slots;
   log_pages = log_pages;
   area = 0;

@@ -4,7 +4,7 @@ pub use Rattle.rss_base.specs.Layout
 pub use Rattle.rss_base.specs.PageMap
 pub use Rattle.rss_base.specs.Paged
 pub use Rattle.rss_base.specs.StoredPages
-pub use Rattle.rss_model.specs.Store
+pub use Rattle.rss_stored.specs.Store
 pub use Rattle.rss_catalog.specs.Catalogs
 pub mod Stores
 pub mod Shown

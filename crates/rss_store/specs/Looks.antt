@@ -12,7 +12,7 @@ use Rattle.rss_tuple.specs.Checked.{AreNoted}
 use Rattle.rss_catalog.specs.Catalogs.{CatalogView, Loads}
 use Rattle.rss_model.specs.Tables.{Tables}
 use Rattle.rss_model.specs.Fits.{Fits}
-use Rattle.rss_model.specs.Store.{IsStorePage, SpellsTables, AreNodesWithin}
+use Rattle.rss_stored.specs.Store.{IsStorePage, SpellsTables, AreNodesWithin}
 
 -- ---- what the pages hold
 

@@ -26,9 +26,9 @@ use Rattle.rss_log.specs.Logs.{LogView, bytes_from}
 use Rattle.rss_model.specs.Tables.{Tables}
 use Rattle.rss_model.specs.Machine.{StoreSize, State, IsAtRest}
 use Rattle.rss_model.specs.Kept.{IsMetered, HasLogRoom}
-use Rattle.rss_model.specs.LogLaws.{IsRested}
+use Rattle.rss_stored.specs.LogLaws.{IsRested}
 use Rattle.rss_model.specs.Spares.{listed_bound, live_of}
-use Rattle.rss_model.specs.Store.{Stored, IsStore, OpensIn, IsBrokenAt, IsOverfull, size_of}
+use Rattle.rss_stored.specs.Store.{Stored, IsStore, OpensIn, IsBrokenAt, IsOverfull, size_of}
 use Rattle.rss_access.specs.Changes.{both}
 use Rattle.rss_access.specs.Written.{heap_now, AreWritten}
 use Rattle.rss_restart.specs.Opened.{IsOpened}

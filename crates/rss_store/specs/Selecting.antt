@@ -14,8 +14,8 @@ use Rattle.rss_log.specs.Logs.{LogView, HasRecords, piece_of, tail_of}
 use Rattle.rss_model.specs.Fits.{Fits}
 use Rattle.rss_model.specs.Meanings.{Logged, as_bytes}
 use Rattle.rss_model.specs.Meter.{room_number}
-use Rattle.rss_model.specs.LogLaws.{HoldsLog}
-use Rattle.rss_model.specs.Store.{Stored, SpellsTables, AreNodesWithin, HasLog, meter_of, IsStore}
+use Rattle.rss_stored.specs.LogLaws.{HoldsLog}
+use Rattle.rss_stored.specs.Store.{Stored, SpellsTables, AreNodesWithin, HasLog, meter_of, IsStore}
 use Rattle.rss_store.specs.Stores.{StoreView, IsLogBehind}
 
 -- ---- the pieces of the log

@@ -12,8 +12,8 @@ use Rattle.rss_model.specs.Steps.{MayUndo}
 use Rattle.rss_model.specs.Spares.{change_counts, page_counts, IsInSession}
 use Rattle.rss_model.specs.Meanings.{as_bytes, SameDefinitions}
 use Rattle.rss_model.specs.EngineLogs.{EngineLog, all_logged}
-use Rattle.rss_model.specs.LogLaws.{IsStoredOf}
-use Rattle.rss_model.specs.Store.{Stored, SpellsTables, meter_of, IsStore, OpensTo}
+use Rattle.rss_stored.specs.LogLaws.{IsStoredOf}
+use Rattle.rss_stored.specs.Store.{Stored, SpellsTables, meter_of, IsStore, OpensTo}
 use Rattle.rss_access.specs.Written.{AreWritten}
 use Rattle.rss_store.specs.Stores.{StoreView}
 

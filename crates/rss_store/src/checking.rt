@@ -16,7 +16,7 @@ ghost use Rattle.rss_page.specs.Slotted.{IsHeapKey};
 ghost use Rattle.rss_tuple.specs.Checked.{pages_of};
 ghost use Rattle.rss_tuple.specs.Heaps.{AreHeaps};
 ghost use Rattle.rss_tuple.specs.TupleSteps.{TuplesCall, no_tuple, tuples_in};
-ghost use Rattle.rss_model.specs.Store.{IsStorePage};
+ghost use Rattle.rss_stored.specs.Store.{IsStorePage};
 ghost use Rattle.rss_access.specs.Bodies.{is_body};
 ghost use Rattle.rss_access.specs.Changes.{both};
 ghost use Rattle.rss_store.specs.Checks.{AreSeen, ChecksSegment, MissesSegment, IsCountOf};

@@ -8,8 +8,8 @@ ghost use Rattle.rss_buffer.specs.Saving.{SavingCall};
 ghost use Rattle.rss_buffer.specs.declared.stage.Stage.{Stage as AnyStage};
 ghost use Rattle.rss_model.specs.Machine.{State};
 ghost use Rattle.rss_model.specs.Meter.{end_size};
-ghost use Rattle.rss_model.specs.LogLaws.{committed_now};
-ghost use Rattle.rss_model.specs.Store.{Stored, size_of, IsStore};
+ghost use Rattle.rss_stored.specs.LogLaws.{committed_now};
+ghost use Rattle.rss_stored.specs.Store.{Stored, size_of, IsStore};
 ghost use Rattle.rss_store.specs.Commits.{HasLogRoom, IsEndPlace, MayCommit, CanCheckpoint};
 ghost use Rattle.rss_store.specs.Commits.{IsSavedStore, CommitsPages, Saves, SamePages, least_mark, new_pieces};
 ghost use Rattle.rss_store.specs.Commits.{changed_with, other_writes};
@@ -19,7 +19,7 @@ ghost use Rattle.rss_store.specs.Stores.{IsReady, IsSaved, Grows};
 
 use crate::DurableStore;
 use crate::writing::{tail_of, write_pieces};
-use rss_base::{LogRecord, Marks, PageFault, Root};
+use rss_base::{LogRecord, Marks, PageFault, Root, VERSION};
 use rss_buffer::Saving;
 
 impl<S: Saving> DurableStore<S> {
@@ -27,7 +27,7 @@ impl<S: Saving> DurableStore<S> {
 
     /// Ends a transaction: puts its End record behind the others, writes the pieces of the log that
     /// became full since a root was written, and selects the other root with the rest of the log.
-    /// No data slot and no map area is written.
+    /// No data slot and no map area is written, and the root keeps its version.
     ///
     /// At each moment a stop leaves the store of before or the one with the transaction committed;
     /// after `Ok` the latter.
@@ -53,11 +53,14 @@ impl<S: Saving> DurableStore<S> {
         ensures log { Grows end_size (view S.view self.old).log (view S.view self.new).log }
         ensures pages { OnOk result (SamePages (view S.view self.old).pages (view S.view self.new).pages) }
         ensures size { size_of (view S.view self.new).root ≡ size_of (view S.view self.old).root }
+        ensures version { OnOk result
+            ((view S.view self.new).root.version ≡ (view S.view self.old).root.version) }
         ensures did { CommitsPages (view S.view self.old).pages (view S.view self.new).pages result }
         ensures catalog { (view S.view self.new).catalog ≡ (view S.view self.old).catalog }
     {
         self.log.append(&LogRecord::End(transaction));
         let next = Root {
+            version: self.root.version,
             slots: self.root.slots,
             log_pages: self.root.log_pages,
             area: self.root.area,
@@ -72,7 +75,7 @@ impl<S: Saving> DurableStore<S> {
     /// Takes a checkpoint: writes the pages of the catalog that have changed, saves all pages and
     /// their map to where no stop finds them, puts a Checkpoint record behind the others that names
     /// these transactions, each with the position of its first change, and selects the other root,
-    /// with this map and with the log from the least of these positions on.
+    /// with the newest version, with this map and with the log from the least of these positions on.
     ///
     /// At each moment a stop leaves the store of before or that of the checkpoint; after `Ok` the
     /// latter.
@@ -113,6 +116,7 @@ impl<S: Saving> DurableStore<S> {
         self.tuples.pages.save(area)?;
         let checkpoint = self.log.append(&LogRecord::Checkpoint(marks));
         let next = Root {
+            version: VERSION,
             slots: self.root.slots,
             log_pages: self.root.log_pages,
             area,

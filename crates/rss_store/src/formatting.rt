@@ -8,13 +8,14 @@ ghost use Rattle.rss_base.specs.Sizes.{slots_least, slots_most};
 ghost use Rattle.rss_base.specs.declared.place.Place.{Place};
 ghost use Rattle.rss_base.specs.declared.fault.OpenFault.TheVariants.{NotAStore, Damaged};
 ghost use Rattle.rss_base.specs.declared.fault.OpenFault.TheVariants.{WrongSize};
-ghost use Rattle.rss_model.specs.Store.{no_tables, OpensTo};
+ghost use Rattle.rss_model.specs.Tables.{no_tables};
+ghost use Rattle.rss_stored.specs.Store.{OpensTo};
 ghost use Rattle.rss_store.specs.Formatted.{AreSizes, first_root, first_owners, HoldsZeros};
 ghost use Rattle.rss_store.specs.Formatted.{HoldsFormatted};
 
 use rss_base::{
     Device, Failed, LOG_PAGES_LEAST, LOG_PAGES_MOST, OpenFault, PAGE_BYTES, PageKey, Root,
-    SLOTS_LEAST, SLOTS_MOST, SYSTEM_PAGES, Space, Tail, device_pages, put, slots_at,
+    SLOTS_LEAST, SLOTS_MOST, SYSTEM_PAGES, Space, Tail, VERSION, device_pages, put, slots_at,
 };
 use rss_pagemap::SlotTable;
 use rss_root::encode;
@@ -77,6 +78,7 @@ fn first_root(slots: u32, log_pages: u32) -> Root
     ensures { result ≡ first_root slots log_pages }
 {
     Root {
+        version: VERSION,
         slots,
         log_pages,
         area: 0,

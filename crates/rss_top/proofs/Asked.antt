@@ -13,7 +13,7 @@ use Rattle.rss_model.specs.ReplyText.{answer_line}
 use Rattle.rss_model.specs.Plays.{LineStep, bound, one_turn}
 use Rattle.rss_model.specs.Plays.LineStep.{call}
 use Rattle.rss_model.specs.Machine.{State}
-use Rattle.rss_model.specs.Calls.{EngineView, OpensShown}
+use Rattle.rss_stored.specs.Calls.{EngineView, OpensShown}
 use Rattle.rss_base.specs.Streams.{Stream, TakesSome}
 use Rattle.rss_base.proofs.Flows.{some_none}
 use Rattle.rss_top.specs.Lines.{View, world, seen_with, PassesOn, IsCallEnd, IsAsked, LineStopped, IsLineEnd, RunsCall}

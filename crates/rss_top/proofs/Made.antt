@@ -4,7 +4,8 @@ use Rattle.std.specs.Prelude.{Ok}
 use Rattle.rss_base.specs.DiskRule.{Told, IsTold}
 use Rattle.rss_base.specs.declared.answer.Reply.TheVariants.{Ok as Done}
 use Rattle.rss_model.specs.ReplyText.{answer_line}
-use Rattle.rss_model.specs.Store.{no_tables, OpensTo}
+use Rattle.rss_model.specs.Tables.{no_tables}
+use Rattle.rss_stored.specs.Store.{OpensTo}
 use Rattle.rss_store.specs.Formatted.{AreSizes, HoldsFormatted}
 use Rattle.rss_top.specs.Run.{World}
 use Rattle.rss_top.specs.Format.{IsMade, IsFormat}

@@ -12,15 +12,15 @@ use Rattle.rss_model.specs.Meter.{at_rest}
 use Rattle.rss_model.specs.Tables.{Tables}
 use Rattle.rss_model.specs.Machine.{StoreSize, State, IsAtRest}
 use Rattle.rss_model.specs.ReplyText.{not_a_store_line, damaged_line}
-use Rattle.rss_model.specs.Store.{Stored, IsStore, OpensTo, OpensIn, IsBrokenAt, IsOverfull, IsNoStore, overflow_pages, size_of}
+use Rattle.rss_stored.specs.Store.{Stored, IsStore, OpensTo, OpensIn, IsBrokenAt, IsOverfull, IsNoStore, overflow_pages, size_of}
 use Rattle.rss_model.specs.Plays.{plain}
 use Rattle.rss_store.specs.Opening.{HasTables, IsSpent, MayLeave as StoreLeaves, PassesOpening, IsEarlyRefusal, IsHandedBack}
 use Rattle.rss_rsi.specs.Opening.{BeginsIn, IsOpened}
-use Rattle.rss_model.proofs.Stores.{store_unbroken}
+use Rattle.rss_stored.proofs.Stores.{store_unbroken}
 use Rattle.rss_base.specs.Streams.{Stream}
 use Rattle.rss_top.specs.Run.{World, Window, IsTaken, Ended, IsFailedOpening, MayLeave, BeginsAt, ImagesAt, IsRun}
 use Rattle.rss_top.specs.Run.IsRun.{unopened, refused, opened}
-use Rattle.rss_model.specs.Calls.{EngineView}
+use Rattle.rss_stored.specs.Calls.{EngineView}
 use Rattle.rss_top.specs.Lines.{View, IsScriptEnd, RunsScript, beginning, on, world, seen}
 use Rattle.rss_top.specs.Says.{Says, TellsDamage}
 use Rattle.rss_top.specs.Says.IsSaid.{said, cut, unsaid}

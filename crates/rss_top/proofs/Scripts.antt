@@ -8,7 +8,7 @@ use Rattle.rss_base.proofs.Flows.{gives_none, gives_then, gives_kept}
 use Rattle.rss_model.specs.Machine.{State}
 use Rattle.rss_top.specs.Run.{Beginning, HoldsAt, ImagesNow, Stopped, IsTaken, IsHalt, IsReadThrough, script_limit}
 use Rattle.rss_model.specs.Variables.{Variable}
-use Rattle.rss_model.specs.Calls.{EngineView}
+use Rattle.rss_stored.specs.Calls.{EngineView}
 use Rattle.rss_top.specs.Lines.{View, seen, seen_with, Kept, RunsBytes, RunsLast, RunsScript, IsScriptEnd, scene_in, beginning}
 use Rattle.rss_top.specs.declared.status.Status.{Status}
 use Rattle.rss_top.specs.declared.status.Status.TheVariants.{Ok as Done, NoMemory, TooLong}

@@ -11,7 +11,7 @@ use Rattle.rss_model.specs.ReplyText.{answer_line}
 use Rattle.rss_model.specs.Plays.{nothing, only_text}
 use Rattle.rss_model.specs.Plays.LineStep.{blank, words}
 use Rattle.rss_model.specs.Machine.{State}
-use Rattle.rss_model.specs.Calls.{EngineView, OpensShown}
+use Rattle.rss_stored.specs.Calls.{EngineView, OpensShown}
 use Rattle.rss_base.specs.Streams.{Stream}
 use Rattle.rss_top.specs.Lines.{View, world, seen_with, PassesOn, LineStopped, IsLineEnd, RunsLine}
 use Rattle.rss_top.specs.Says.{IsWritten, Writes}

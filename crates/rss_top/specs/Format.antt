@@ -5,7 +5,8 @@ use Rattle.rss_base.specs.Faults.{Rises}
 use Rattle.rss_base.specs.Streams.{Takes, TakesFront}
 use Rattle.rss_base.specs.declared.answer.Reply.TheVariants.{Ok as Done}
 use Rattle.rss_model.specs.ReplyText.{answer_line}
-use Rattle.rss_model.specs.Store.{no_tables, OpensTo}
+use Rattle.rss_model.specs.Tables.{no_tables}
+use Rattle.rss_stored.specs.Store.{OpensTo}
 use Rattle.rss_store.specs.Formatted.{AreSizes, IsFormatted}
 use Rattle.rss_top.specs.Run.{World}
 use Rattle.rss_top.specs.declared.status.Status.{Status}

@@ -12,7 +12,7 @@ use Rattle.rss_model.specs.Script.{line_limit}
 use Rattle.rss_model.specs.Variables.{Variable}
 use Rattle.rss_model.specs.Forms.{Spells}
 use Rattle.rss_model.specs.Plays.{Scene, Made, LineStep}
-use Rattle.rss_model.specs.Calls.{States, EngineView, GoesOn, IsAnswer, IsFault, IsDamaged, IsUnanswered}
+use Rattle.rss_stored.specs.Calls.{States, EngineView, GoesOn, IsAnswer, IsFault, IsDamaged, IsUnanswered}
 use Rattle.rss_top.specs.Run.{World, Beginning, point_now, OpensAt, HoldsAt, OpensAtEither, ImagesNow, Story, Stopped, Whole, IsTaken, Ended}
 use Rattle.rss_top.specs.declared.status.Status.{Status}
 use Rattle.rss_top.specs.declared.status.Status.TheVariants.{Ok as Done, ReadFault, TooLong, WriteFault, DeviceFault, Damaged, NoMemory}

@@ -10,7 +10,7 @@ use Rattle.rss_model.specs.Machine.{StoreSize, State, IsAtRest}
 use Rattle.rss_model.specs.Plays.{plain}
 use Rattle.rss_model.specs.ReplyText.{not_a_store_line, damaged_line}
 use Rattle.rss_model.specs.Script.{joined}
-use Rattle.rss_model.specs.Store.{OpensTo, IsBrokenAt, IsOverfull, IsNoStore}
+use Rattle.rss_stored.specs.Store.{OpensTo, IsBrokenAt, IsOverfull, IsNoStore}
 use Rattle.rss_store.specs.Formatted.{AreSizes}
 use Rattle.rss_store.specs.Opening.{HasTables, IsSpent, HasNamed}
 use Rattle.rss_words.specs.Words.{AreRun, AreFormat, AreGenerate, AreTrial, IsCommand}

@@ -7,8 +7,8 @@ use Rattle.rss_model.specs.ReplyText.{damaged_line}
 use Rattle.rss_model.specs.Runs.{Run}
 use Rattle.rss_model.specs.Script.{joined, IsUnbroken, Splits, AreLines}
 use Rattle.rss_model.specs.Plays.{Scene, Made, nothing, both_made, LineStep, Play}
-use Rattle.rss_model.specs.LogLaws.{IsRested}
-use Rattle.rss_model.specs.Store.{Stored, IsStore, OpensTo, OpensIn, OpensToEither, HoldsState}
+use Rattle.rss_stored.specs.LogLaws.{IsRested}
+use Rattle.rss_stored.specs.Store.{Stored, IsStore, OpensTo, OpensIn, OpensToEither, HoldsState}
 use Rattle.rss_store.specs.Opening.{IsSpent}
 use Rattle.rss_top.specs.Says.{Says}
 use Rattle.rss_top.specs.declared.status.Status.{Status}

@@ -1,7 +1,7 @@
 // A piece of a script.
 ghost use Rattle.std.specs.Prelude.{◌≡◌, ◌+◌, ◌<◌, ◌≤◌, [], ◌∷◌, ◌++◌, slice_index, length, take};
 ghost use Rattle.std.specs.Prelude.{IfSome, IfNone, OnOk};
-ghost use Rattle.rss_model.specs.Calls.{calls_most};
+ghost use Rattle.rss_stored.specs.Calls.{calls_most};
 ghost use Rattle.rss_model.specs.Script.{IsUnbroken};
 ghost use Rattle.rss_top.specs.Run.{line_end};
 ghost use Rattle.rss_top.specs.Lines.{seen_with, kept_limit, RunsBytes};
@@ -10,7 +10,7 @@ use crate::Status;
 use crate::line::line;
 use rss_base::Sink;
 use rss_line::{LINE_LIMIT, Names};
-use rss_model::Engine;
+use rss_stored::Engine;
 use std::alloc::{AllocError, Global};
 
 /// How much of a line is kept until its end is found: one byte more than a line may have, so that a

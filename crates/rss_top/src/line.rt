@@ -1,6 +1,6 @@
 // One line of a script.
 ghost use Rattle.std.specs.Prelude.{◌≡◌, ◌<◌, ◌≤◌, true, [], vec_capacity, IsSome, OnOk};
-ghost use Rattle.rss_model.specs.Calls.{calls_most};
+ghost use Rattle.rss_stored.specs.Calls.{calls_most};
 ghost use Rattle.rss_model.specs.Defining.{DefinesNames, LocksGranule};
 ghost use Rattle.rss_model.specs.Plays.{bound};
 ghost use Rattle.rss_model.specs.Script.{line_limit};
@@ -10,7 +10,7 @@ use crate::Status;
 use crate::writing::{make_room, write_answer};
 use rss_base::{Call, CallError, Name, Refusal, Reply, Sink};
 use rss_line::{Line, LineFault, Names, read_line};
-use rss_model::Engine;
+use rss_stored::Engine;
 use std::alloc::{AllocError, Global};
 
 /// Makes a call. Its answer is a reply or a refusal.

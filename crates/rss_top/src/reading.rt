@@ -1,7 +1,7 @@
 // A script, read and run.
 ghost use Rattle.std.specs.Prelude.{◌≡◌, ◌+◌, ◌<◌, ◌≤◌, length, vec_len, IfOk};
 ghost use Rattle.rss_base.specs.Streams.{ReadsBytes};
-ghost use Rattle.rss_model.specs.Calls.{calls_most};
+ghost use Rattle.rss_stored.specs.Calls.{calls_most};
 ghost use Rattle.rss_top.specs.Run.{script_limit};
 ghost use Rattle.rss_top.specs.Lines.{seen, seen_with, RunsLast, RunsScript};
 
@@ -10,7 +10,7 @@ use crate::feed::feed;
 use crate::line::line;
 use rss_base::{Failed, Sink, Source};
 use rss_line::Names;
-use rss_model::Engine;
+use rss_stored::Engine;
 use std::alloc::{AllocError, Global};
 
 /// How many bytes of the script are asked for at a time.

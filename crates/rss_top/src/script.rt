@@ -1,6 +1,6 @@
 // A script, run over the store of a device.
 ghost use Rattle.std.specs.Prelude.{◌+◌, ◌≤◌};
-ghost use Rattle.rss_model.specs.Calls.{calls_most};
+ghost use Rattle.rss_stored.specs.Calls.{calls_most};
 ghost use Rattle.rss_top.specs.Run.{script_limit};
 ghost use Rattle.rss_top.specs.Lines.{seen, on, RunsScript};
 ghost use Rattle.rss_top.specs.Says.{TellsDamage};
@@ -10,8 +10,8 @@ use crate::Status;
 use crate::reading::run_lines;
 use crate::writing::{refuse_damaged, refuse_layout};
 use rss_base::{Device, OpenFault, Sink, Source, Unopened};
-use rss_model::Engine;
 use rss_rsi::{MOST_FRAMES, open};
+use rss_stored::Engine;
 use std::alloc::Global;
 
 /// Runs a script over a store that is open. A store that a line finds damaged is refused.

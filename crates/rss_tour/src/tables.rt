@@ -4,8 +4,8 @@ ghost use Rattle.rss_model.specs.Defining.{DefinesNames, LocksGranule};
 use anyhow::{Result, bail, ensure};
 use rss_base::{Call, CallError, Kind, Name, Page, Refusal, Reply, Tuple, Value};
 use rss_device::MemDevice;
-use rss_model::{CALLS_MOST, Engine};
 use rss_rsi::{MOST_FRAMES, open};
+use rss_stored::{CALLS_MOST, Engine};
 use std::alloc::Global;
 
 /// The relation whose tuples are shown.

@@ -12,8 +12,7 @@ use Rattle.rss_model.specs.Records.{Listed, changes_in, is_by, own_in, others_in
 use Rattle.rss_model.specs.Ties.{StandsAt, here, older}
 use Rattle.rss_model.specs.EngineLogs.{stamp_of}
 use Rattle.rss_model.proofs.LogLists.{by_test, by_same, false_true}
-use Rattle.rss_model.proofs.LogKeeping.{own_changes, others_changes}
-use Rattle.rss_model.proofs.LogCounting.{stamps_others}
+use Rattle.rss_model.proofs.LogKeeping.{own_changes, others_changes, stamps_others}
 use Rattle.rss_trans.specs.declared.noted.Noted.{Noted}
 use Rattle.rss_trans.specs.Told.{AreNotesOf, listed_by, TiedListed, ListedOnce, BackListed, GoneListed, StandsBefore, AllStay}
 

@@ -405,7 +405,7 @@ no_more traffic all true le = omega (arith, le)
 no_more traffic all false le = omega (arith, le)
 
 pub since_told : SinceTold
-since_told listing old new now note l over is once told notes below = record {
+since_told listing old new definitions now note l over is once told notes below = record {
   all = notes.since ∙ (let same = is.all in omega (arith, same, below));
   each = λ relation number numbered.
       notes.since_of number

@@ -11,7 +11,7 @@ use Rattle.rss_base.specs.Sizes.{largest_checkpoint}
 use Rattle.rss_base.specs.declared.log_record.LogRecord.TheVariants as records
 use Rattle.rss_base.specs.LogRecords.{IsSpellable, marks_most}
 use Rattle.rss_base.specs.Listings.{Listing, IsNumberOf, AreListedOnce}
-use Rattle.rss_model.specs.Tables.{Tables}
+use Rattle.rss_model.specs.Tables.{Definitions, Tables}
 use Rattle.rss_model.specs.Changes.{Change, maker, mine, theirs, own, others, kept_to, is_delete_of}
 use Rattle.rss_model.specs.Meter.{Stamp, Meter, restore_size, end_size, changers, owed}
 use Rattle.rss_model.specs.Meter as meter
@@ -299,11 +299,11 @@ pub record TellsSince (listing : Listing) (view : OpenView) (now : Meter) : Type
 
 -- a change counts in both, as far as a u64 counts
 abbrev pub SinceTold : Type 0
-SinceTold = (listing : Listing) (old new : OpenView) (now : Meter) (note : Noted) (l : Listed)
-    (over : ℕ)
+SinceTold = (listing : Listing) (old new : OpenView) (definitions : Definitions) (now : Meter) (note : Noted)
+    (l : Listed) (over : ℕ)
     → TellsSince listing old now → AreListedOnce kinds.Relation listing → IsNoteOf listing note l
     → Notes l.change.by note old new → now.since < 2 ^ 64 - 1
-    → TellsSince listing new (meter.counted l.change over now)
+    → TellsSince listing new (meter.counted definitions l.change over now)
 
 -- behind a checkpoint there are none
 abbrev pub SinceSaved : Type 0

@@ -16,7 +16,8 @@ use Rattle.rss_page.specs.Surveyed.{held_at}
 use Rattle.rss_tuple.specs.Directory.{Entries, contents, content_at, homes, overflows, body_in, body_by, tid_at}
 use Rattle.rss_tuple.specs.Heaps.{HasBody, AreHeaps}
 use Rattle.rss_tuple.specs.TupleSteps.{IsLive, IsLeast, NoneIs, tuples_in}
-use Rattle.rss_tuple.specs.Finding.{IsAfter, IsFrom, IsNext, IsFirstTaken, NoneTaken}
+use Rattle.rss_base.specs.Tids.{IsAfter}
+use Rattle.rss_tuple.specs.Finding.{IsFrom, IsNext, IsFirstTaken, NoneTaken}
 use Rattle.rss_tuple.proofs.Seen.{high_empty, some_there}
 use Rattle.rss_tuple.proofs.Changes.{live_some}
 

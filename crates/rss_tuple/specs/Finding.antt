@@ -5,7 +5,8 @@ use Rattle.rss_base.specs.declared.tid.Tid.{Tid}
 use Rattle.rss_page.specs.Content.{Content, Empty, Here, Forward}
 use Rattle.rss_page.specs.Surveyed.{held_at}
 use Rattle.rss_tuple.specs.Calls.{IsBodyLength}
-use Rattle.rss_tuple.specs.TupleSteps.{TuplesView, IsLive, IsBelow, IsLeast, NoneIs}
+use Rattle.rss_base.specs.Tids.{IsAfter}
+use Rattle.rss_tuple.specs.TupleSteps.{TuplesView, IsLive, IsLeast, NoneIs}
 use Rattle.rss_tuple.specs.declared.reading.Found.{Found}
 use Rattle.rss_tuple.specs.declared.reading.Found.TheVariants.{Nothing, Body, Elsewhere}
 
@@ -28,11 +29,6 @@ IsInForm Body read = IsBodyLength (length read)
 IsInForm (Elsewhere page slot) read = slot < page_entries
 
 -- ---- the next tuple
-
--- an identifier stands behind this one, or is any where there is none
-abbrev pub IsAfter : Option Tid → Tid → Type 0
-IsAfter None tid = Unit {0}
-IsAfter (Some after) tid = IsBelow after tid
 
 -- an identifier stands at this one or behind it
 abbrev pub IsFrom : Tid → Tid → Type 0

@@ -1,10 +1,10 @@
 -- What the home and the overflow pages of a store are, where the device tells its contents.
 use Rattle.std.specs.Prelude.{◌≡◌, ℕ, ◌+◌, ◌<◌, ◌≤◌, List, length, Option, Some, IfSome}
-use Rattle.rss_base.specs.Sizes.{page_entries}
+use Rattle.rss_base.specs.Sizes.{page_entries, bodies_room}
 use Rattle.rss_base.specs.Steps.{PagesView}
 use Rattle.rss_base.specs.declared.key.PageKey.{PageKey}
 use Rattle.rss_page.specs.Content.{Content, Empty, Here, Forward}
-use Rattle.rss_page.specs.Slotted.{bodies_room, entries, body_bytes, IsHeapKey, IsWellFormed}
+use Rattle.rss_page.specs.Slotted.{entries, body_bytes, IsHeapKey, IsWellFormed}
 use Rattle.rss_page.specs.Surveyed.{held_at, IsVacant}
 use Rattle.rss_tuple.specs.Directory.{Entries, homes, overflows}
 

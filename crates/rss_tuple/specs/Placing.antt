@@ -1,6 +1,6 @@
 -- Which identifier a new tuple gets, and in which page a body stands.
 use Rattle.std.specs.Prelude.{◌≡◌, ◌⊎◌, ℕ, ◌+◌, ◌<◌, ◌≤◌, true, false, List, [], length, Contains, None}
-use Rattle.rss_base.specs.Sizes.{page_entries}
+use Rattle.rss_base.specs.Sizes.{page_entries, bodies_room}
 use Rattle.rss_base.specs.Paged.{page_key}
 use Rattle.rss_base.specs.Steps.{PagesView, Keys, only, pages_in}
 use Rattle.rss_base.specs.DiskRule.{IsTold}
@@ -9,7 +9,7 @@ use Rattle.rss_base.specs.declared.tid.Tid.{Tid}
 use Rattle.rss_base.specs.declared.key.Space.{Space}
 use Rattle.rss_base.specs.declared.key.Space.TheVariants.{Home, Overflow}
 use Rattle.rss_page.specs.Content.{Content, Empty, Here, Forward}
-use Rattle.rss_page.specs.Slotted.{bodies_room, body_bytes, HasRoom}
+use Rattle.rss_page.specs.Slotted.{body_bytes, HasRoom}
 use Rattle.rss_page.specs.Surveyed.{held_at}
 use Rattle.rss_tuple.specs.Directory.{contents, homes}
 use Rattle.rss_tuple.specs.TupleSteps.{TuplesView, IsLeast, NoneIs}

@@ -1,13 +1,13 @@
 -- What is found in a page of free entries and of room.
 use Rattle.std.specs.Prelude.{◌≡◌, ◌↔◌, ℕ, ◌+◌, ◌<◌, ◌≤◌, Bool, true, false, List, [], Option, Some, MatchOption, Contains, slice_index_or}
-use Rattle.rss_base.specs.Sizes.{page_entries}
+use Rattle.rss_base.specs.Sizes.{page_entries, bodies_room}
 use Rattle.rss_base.specs.DiskRule.{IsTold}
 use Rattle.rss_base.specs.Paged.{page_key}
 use Rattle.rss_base.specs.Steps.{PagesView}
 use Rattle.rss_base.specs.declared.key.PageKey.{PageKey}
 use Rattle.rss_base.specs.declared.tid.Tid.{Tid}
 use Rattle.rss_page.specs.Content.{Content, Empty}
-use Rattle.rss_page.specs.Slotted.{bodies_room, entries, body_bytes}
+use Rattle.rss_page.specs.Slotted.{entries, body_bytes}
 use Rattle.rss_page.specs.Surveyed.{held_at, IsSurvey}
 use Rattle.rss_tuple.specs.declared.finding.Spot.{Spot}
 use Rattle.rss_tuple.specs.Directory.{tid_at}

@@ -3,6 +3,7 @@ use Rattle.std.specs.Prelude.{◌≡◌, ◌⊎◌, ℕ, ◌<◌, Result, OnOk, 
 use Rattle.rss_base.specs.DiskRule.{IsTold}
 use Rattle.rss_base.specs.Paged.{page_key}
 use Rattle.rss_base.specs.Steps.{PagesView, Keys, PagesCall, pages_in}
+use Rattle.rss_base.specs.Tids.{IsBelow}
 use Rattle.rss_base.specs.declared.tid.Tid.{Tid}
 use Rattle.rss_base.specs.declared.fault.PageFault.{PageFault}
 use Rattle.rss_base.specs.declared.key.Space.TheVariants.{Home, Overflow}
@@ -46,10 +47,6 @@ pub record TuplesCall {T : Type 0} (touched : Keys) (tuples : Tuples) (cost : �
 -- a tuple stands at the identifier
 abbrev pub IsLive : TuplesView → ℕ → Tid → Type 0
 IsLive view segment tid = IsSome (view.bodies segment tid)
-
--- the order of identifiers: by page, then by slot
-abbrev pub IsBelow : Tid → Tid → Type 0
-IsBelow a b = (a.page < b.page) ⊎ ((a.page ≡ b.page) × (a.slot < b.slot))
 
 -- the least identifier with a property
 pub record IsLeast (property : Tid → Type 0) (tid : Tid) : Type 0 where

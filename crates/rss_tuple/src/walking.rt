@@ -10,7 +10,8 @@ ghost use Rattle.rss_page.specs.Slotted.{entries, IsHeader, IsHeapKey};
 ghost use Rattle.rss_tuple.specs.Directory.{contents};
 ghost use Rattle.rss_tuple.specs.Heaps.{AreFormed, AreHeaps};
 ghost use Rattle.rss_tuple.specs.TupleSteps.{tuples_in};
-ghost use Rattle.rss_tuple.specs.Finding.{IsAfter, IsFrom, IsFirstTaken, NoneTaken, FindsNext};
+ghost use Rattle.rss_base.specs.Tids.{IsAfter};
+ghost use Rattle.rss_tuple.specs.Finding.{IsFrom, IsFirstTaken, NoneTaken, FindsNext};
 ghost use Rattle.rss_tuple.specs.Calls.{IsSegment};
 
 use crate::finding::is_empty;

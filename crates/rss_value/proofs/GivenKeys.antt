@@ -5,12 +5,12 @@ use Rattle.std.proofs.lemmas.List.{append_assoc, append-nil, get_or-map, length-
 use Rattle.std.proofs.lemmas.List.Elements.{All-head, All-tail}
 use Rattle.std.proofs.lemmas.List.Sums.{sum_by-cons}
 use Rattle.rss_base.specs.declared.field.FieldDef.{FieldDef}
-use Rattle.rss_base.specs.declared.value.FieldKind.{FieldKind}
+use Rattle.rss_base.specs.declared.value.FieldForm.{FieldForm}
 use Rattle.rss_base.specs.declared.value.Value.{Value}
-use Rattle.rss_base.specs.TupleTypes.{kinds, misfit, misfit_from, IsStorable, key_part, key_part_width, key_width, key_bytes, chosen, IsKeyOf}
+use Rattle.rss_base.specs.TupleTypes.{form_of, kinds, misfit, misfit_from, IsStorable, key_part_width, key_width, key_bytes, chosen, IsKeyOf}
 use Rattle.rss_value.specs.Numbers.{IsNumberOf}
 use Rattle.rss_value.proofs.Fitting.{AllFit, fitting, length-fitting}
-use Rattle.rss_value.proofs.KeyOrders.{length-key_part}
+use Rattle.rss_value.proofs.KeyOrders.{form_part, length-key_part}
 
 -- ---- the fields that are chosen
 
@@ -56,43 +56,43 @@ field_read fields which i place from d e numbers within here is = ap (λ (n : �
 -- no value is missing, and none is one too many
 pub none_left : (k : ℕ) (fields : List FieldDef) (values : List Value) (i : ℕ) → i ≡ min (length fields) (length values) → length fields ≡ length values → misfit_from k (drop i (kinds fields)) (drop i values) ≡ None
 none_left k fields values i end same =
-    (λ j. misfit_from k (drop_all i (kinds fields) (omega (arith, end, same, length-map fields (λ (f : FieldDef). f.kind))) j) (drop_all i values (omega (arith, end, same)) j))
+    (λ j. misfit_from k (drop_all i (kinds fields) (omega (arith, end, same, length-map fields form_of)) j) (drop_all i values (omega (arith, end, same)) j))
 
 -- ---- a key, value by value
 
 -- one part more
-part_more : (fields : List FieldKind) (values : List Value) (i : ℕ) (d : FieldKind) (e : Value) → AllFit fields values → i < length fields → key_bytes (take i fields) (take i values) ++ key_part (get_or fields i d) (get_or values i e) ≡ key_bytes (take (suc i) fields) (take (suc i) values)
+part_more : (fields : List FieldForm) (values : List Value) (i : ℕ) (d : FieldForm) (e : Value) → AllFit fields values → i < length fields → key_bytes (take i fields) (take i values) ++ form_part (get_or fields i d) (get_or values i e) ≡ key_bytes (take (suc i) fields) (take (suc i) values)
 part_more [] values i d e all within = absurd (omega (arith, within))
 part_more (f ∷ fields) [] i d e all within = absurd all
-part_more (f ∷ fields) (v ∷ values) zero d e all within = sym (append-nil (key_part f v))
+part_more (f ∷ fields) (v ∷ values) zero d e all within = sym (append-nil (form_part f v))
 part_more (f ∷ fields) (v ∷ values) (suc i) d e all within =
-    append_assoc (key_part f v) (key_bytes (take i fields) (take i values)) (key_part (get_or fields i d) (get_or values i e))
-    ∙ ap (λ (s : List ℕ). key_part f v ++ s) (part_more fields values i d e all.1 (omega (arith, within)))
+    append_assoc (form_part f v) (key_bytes (take i fields) (take i values)) (form_part (get_or fields i d) (get_or values i e))
+    ∙ ap (λ (s : List ℕ). form_part f v ++ s) (part_more fields values i d e all.1 (omega (arith, within)))
 
 -- there is room for it
-part_room : (fields : List FieldKind) (values : List Value) (i : ℕ) (d : FieldKind) → AllFit fields values → i < length fields → length (key_bytes (take i fields) (take i values)) + key_part_width (get_or fields i d) ≤ key_width fields
+part_room : (fields : List FieldForm) (values : List Value) (i : ℕ) (d : FieldForm) → AllFit fields values → i < length fields → length (key_bytes (take i fields) (take i values)) + key_part_width (get_or fields i d) ≤ key_width fields
 part_room [] values i d all within = absurd (omega (arith, within))
 part_room (f ∷ fields) [] i d all within = absurd all
 part_room (f ∷ fields) (v ∷ values) zero d all within = omega (arith, sum_by-cons key_part_width f fields)
 part_room (f ∷ fields) (v ∷ values) (suc i) d all within =
     let rest = part_room fields values i d all.1 (omega (arith, within)) in
-    omega (arith, sum_by-cons key_part_width f fields, length-append (key_part f v) (key_bytes (take i fields) (take i values)), length-key_part f v all.0, rest)
+    omega (arith, sum_by-cons key_part_width f fields, length-append (form_part f v) (key_bytes (take i fields) (take i values)), length-key_part f v all.0, rest)
 
 module _ (fields : List FieldDef) (values : List Value) (i : ℕ) (field : FieldDef) (into : List ℕ) (fit : misfit (kinds fields) values ≡ None) (within : i < length fields) (here : (e : FieldDef) → field ≡ get_or fields i e) (before : into ≡ key_bytes (take i (kinds fields)) (take i values)) where
-  kind_here : field.kind ≡ get_or (kinds fields) i field.kind
-  kind_here = ap (λ (f : FieldDef). f.kind) (here field) ∙ sym (get_or-map (λ (f : FieldDef). f.kind) fields i field field.kind within)
+  kind_here : form_of field ≡ get_or (kinds fields) i (form_of field)
+  kind_here = ap form_of (here field) ∙ sym (get_or-map form_of fields i field (form_of field) within)
 
   kinds_within : i < length (kinds fields)
-  kinds_within = omega (arith, within, length-map fields (λ (f : FieldDef). f.kind))
+  kinds_within = omega (arith, within, length-map fields form_of)
 
-  pub room_given : length into + key_part_width field.kind ≤ key_width (kinds fields)
-  room_given = omega (arith, ap length before, ap key_part_width kind_here, part_room (kinds fields) values i field.kind (fitting 1 (kinds fields) values fit) kinds_within)
+  pub room_given : length into + key_part_width (form_of field) ≤ key_width (kinds fields)
+  room_given = omega (arith, ap length before, ap key_part_width kind_here, part_room (kinds fields) values i (form_of field) (fitting 1 (kinds fields) values fit) kinds_within)
 
-  pub part_given : (value read : Value) (new : List ℕ) → value ≡ get_or values i value → read ≡ value → new ≡ into ++ key_part field.kind read → new ≡ key_bytes (take (i + 1) (kinds fields)) (take (i + 1) values)
+  pub part_given : (value read : Value) (new : List ℕ) → value ≡ get_or values i value → read ≡ value → new ≡ into ++ form_part (form_of field) read → new ≡ key_bytes (take (i + 1) (kinds fields)) (take (i + 1) values)
   part_given value read new there is put =
       let one : suc i ≡ i + 1 = omega arith in
-      put ∙ (λ j. before j ++ key_part (kind_here j) ((is ∙ there) j))
-      ∙ part_more (kinds fields) values i field.kind value (fitting 1 (kinds fields) values fit) kinds_within
+      put ∙ (λ j. before j ++ form_part (kind_here j) ((is ∙ there) j))
+      ∙ part_more (kinds fields) values i (form_of field) value (fitting 1 (kinds fields) values fit) kinds_within
       ∙ ap (λ (n : ℕ). key_bytes (take n (kinds fields)) (take n values)) one
 
 -- the whole key, where as many parts are there as both lists have
@@ -100,7 +100,7 @@ pub key_given : (fields : List FieldDef) (values : List Value) (i : ℕ) (into :
 key_given fields values i into fit end made ranges =
     let long = length-fitting fields values fit in
     let all_values : take i values ≡ values = take_all i values (omega (arith, long, end)) in
-    let all_fields : take i (kinds fields) ≡ kinds fields = take_all i (kinds fields) (omega (arith, long, end, length-map fields (λ (f : FieldDef). f.kind))) in record {
+    let all_fields : take i (kinds fields) ≡ kinds fields = take_all i (kinds fields) (omega (arith, long, end, length-map fields form_of)) in record {
       fit = fit;
       storable = subst (All IsStorable) all_values ranges;
       same = made ∙ (λ j. key_bytes (all_fields j) (all_values j));

@@ -1,10 +1,12 @@
 pub mod Orders
 pub mod Numbers
 pub mod Fitting
+pub mod Standing
 pub mod KeyOrders
 pub mod Reading
 pub mod Bytes
 pub mod Walking
+pub mod Writing
 pub mod Choosing
 pub mod Sums
 pub mod Spelling

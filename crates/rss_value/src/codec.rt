@@ -1,12 +1,13 @@
 // Tuples: whether they fit, and their bytes.
-ghost use Rattle.std.specs.Prelude.{◌≡◌, ◌↔◌, ◌+◌, ◌≤◌, ◌++◌, List, length, Some, None, IsTrue, IfOk, IfErr, IfSome, OnOk};
-ghost use Rattle.rss_base.specs.TupleTypes.{kinds, misfit, most_fields, width, tuple_bytes, Spells, SpellsSome};
+ghost use Rattle.std.specs.Prelude.{◌≡◌, ◌↔◌, ℕ, ◌+◌, ◌<◌, ◌≤◌, ◌++◌, true, false, List, length, drop, Some, None, IsTrue, IfOk, IfErr, IfSome, OnOk};
+ghost use Rattle.std.specs.List.{list_all};
+ghost use Rattle.rss_base.specs.TupleTypes.{kinds, is_undefined, misfit, most_fields, width, tuple_bytes, Spells, SpellsSome};
 ghost use Rattle.rss_value.specs.Spelled.{is_spelled};
 ghost use Rattle.rss_base.specs.declared.value.Value.{Value};
 
 use crate::cursor::Cursor;
 use crate::value_ref::ValueRef;
-use rss_base::{BODY_BYTES, Body, FieldDef, Tuple};
+use rss_base::{BODY_BYTES, Body, FieldDef, Tuple, Value};
 use std::alloc::{AllocError, Global};
 
 /// Whether a tuple fits the fields. If not, the first field, counted from 1, whose value has the
@@ -19,7 +20,7 @@ pub fn fits(fields: &[FieldDef], tuple: &Tuple) -> Result<(), u8>
     let values = tuple.as_slice();
     let mut number = 1;
     for (field, value) in fields.iter().zip(values) {
-        if !ValueRef::new(value).fits(field.kind) {
+        if !ValueRef::new(value).fits(field.form()) {
             return Err(number);
         }
         number += 1;
@@ -36,12 +37,34 @@ pub fn fits(fields: &[FieldDef], tuple: &Tuple) -> Result<(), u8>
 pub fn encode(fields: &[FieldDef], tuple: &Tuple, into: &mut Body)
     requires fit { misfit (kinds fields.now) tuple.now ≡ None }
     requires room { length into.old + width (kinds fields.now) ≤ BODY_BYTES }
-    ensures appended { into.new ≡ into.old ++ tuple_bytes tuple.now }
-    ensures spelled { Spells (kinds fields.now) (tuple_bytes tuple.now) tuple.now }
+    ensures appended { into.new ≡ into.old ++ tuple_bytes (kinds fields.now) tuple.now }
+    ensures spelled { Spells (kinds fields.now) (tuple_bytes (kinds fields.now) tuple.now) tuple.now }
 {
-    for (field, value) in fields.iter().zip(tuple.as_slice()) {
-        ValueRef::new(value).write(field.kind, into);
+    let values = tuple.as_slice();
+    let standing = &values[..standing(values)];
+    for (field, value) in fields.iter().zip(standing) {
+        ValueRef::new(value).write(field.form(), into);
     }
+}
+
+/// How many values there are up to the last one that is defined.
+fn standing(values: &[Value]) -> usize
+    ensures within { result ≤ length values.now }
+    ensures rest { list_all is_undefined (drop result values.now) ≡ true }
+    ensures least { (count : ℕ) → count < result
+        → list_all is_undefined (drop count values.now) ≡ false }
+{
+    let mut count = values.len();
+    while count > 0 && is_undefined(&values[count - 1]) {
+        count -= 1;
+    }
+    count
+}
+
+fn is_undefined(value: &Value) -> bool
+    ensures { result ≡ is_undefined value.now }
+{
+    matches!(value, Value::Undefined)
 }
 
 /// Whether the bytes are those of the values of a tuple that fits the fields. It takes no memory.
@@ -51,7 +74,7 @@ pub fn spells(fields: &[FieldDef], bytes: &[u8]) -> bool
 {
     let mut cursor = Cursor::new(bytes);
     for field in fields {
-        if cursor.read(field.kind).is_none() {
+        if cursor.read(field.form()).is_none() {
             return false;
         }
     }
@@ -68,7 +91,7 @@ pub fn decode(alloc: Global, fields: &[FieldDef], bytes: &[u8]) -> Result<Option
     let mut cursor = Cursor::new(bytes);
     let mut tuple = Tuple::with_capacity(alloc, fields.len())?;
     for field in fields {
-        let Some(value) = cursor.read(field.kind) else {
+        let Some(value) = cursor.read(field.form()) else {
             return Ok(None);
         };
         tuple.push(value.to_value(alloc)?)?;

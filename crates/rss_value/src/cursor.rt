@@ -1,10 +1,10 @@
 // Values that are read from bytes.
 ghost use Rattle.std.specs.Prelude.{◌≡◌, ◌↔◌, [], IsTrue};
 ghost use Rattle.rss_base.specs.declared.value.FieldKind.TheVariants.{Int as IntField, Text as TextField};
-ghost use Rattle.rss_value.specs.Reads.{Reads, IsInt};
+ghost use Rattle.rss_value.specs.Reads.{Reads, IsInt, original, added};
 
 use crate::value_ref::{ValueRef, is_allowed_text};
-use rss_base::FieldKind;
+use rss_base::{FieldForm, FieldKind};
 use std::marker::Model;
 
 /// Bytes whose values are read one after another.
@@ -35,10 +35,36 @@ impl<'a> Cursor<'a> {
         self.rest.is_empty()
     }
 
-    /// The value of a field of this kind that the bytes begin with. Where there is none, the
+    /// The value of a field of this form that the bytes begin with. Where there is none, the
     /// cursor may stand anywhere.
-    pub fn read(&mut self, kind: FieldKind) -> Option<ValueRef<'a>>
-        ensures { Reads kind self.old result self.new }
+    pub fn read(&mut self, form: FieldForm) -> Option<ValueRef<'a>>
+        ensures { Reads form self.old result self.new }
+    {
+        if form.added {
+            self.read_marked(form.kind)
+        } else {
+            self.read_kind(form.kind)
+        }
+    }
+
+    /// The value of an added field. At the end of the bytes it is undefined. A 0 there is none: it
+    /// stands only before a field that has a value.
+    fn read_marked(&mut self, kind: FieldKind) -> Option<ValueRef<'a>>
+        ensures { Reads (added kind) self.old result self.new }
+    {
+        let Some((mark, rest)) = self.rest.split_first() else {
+            return Some(ValueRef::Undefined);
+        };
+        self.rest = rest;
+        match *mark {
+            0 if !rest.is_empty() => Some(ValueRef::Undefined),
+            1 => self.read_kind(kind),
+            _ => None,
+        }
+    }
+
+    fn read_kind(&mut self, kind: FieldKind) -> Option<ValueRef<'a>>
+        ensures { Reads (original kind) self.old result self.new }
     {
         match kind {
             FieldKind::Int => self.read_int(),
@@ -47,7 +73,7 @@ impl<'a> Cursor<'a> {
     }
 
     fn read_int(&mut self) -> Option<ValueRef<'a>>
-        ensures { Reads IntField self.old result self.new }
+        ensures { Reads (original IntField) self.old result self.new }
     {
         let (bytes, rest) = self.rest.split_first_chunk()?;
         self.rest = rest;
@@ -55,7 +81,7 @@ impl<'a> Cursor<'a> {
     }
 
     fn read_text(&mut self, most: u8) -> Option<ValueRef<'a>>
-        ensures { Reads (TextField most) self.old result self.new }
+        ensures { Reads (original (TextField most)) self.old result self.new }
     {
         let (length, rest) = self.rest.split_first()?;
         let (bytes, rest) = rest.split_at_checked(usize::from(*length))?;

@@ -4,7 +4,7 @@ ghost use Rattle.std.specs.Ordering.{nat_cmp};
 ghost use Rattle.std.specs.Cmp.Lexicographic.{slice_cmp};
 ghost use Rattle.rss_base.specs.TupleTypes.{kinds, misfit, most_fields, values_cmp, most_key_width, key_width, key_bytes, chosen, Spells, SpellsSome, IsKeyOf};
 ghost use Rattle.rss_base.specs.declared.value.Value.{Value};
-ghost use Rattle.rss_base.specs.declared.value.FieldKind.{FieldKind};
+ghost use Rattle.rss_base.specs.declared.value.FieldForm.{FieldForm};
 ghost use Rattle.rss_value.specs.Numbers.{IsNumberOf};
 
 use crate::cursor::Cursor;
@@ -42,11 +42,11 @@ fn put_part(fields: &[FieldDef], number: u8, values: &[u8], into: &mut Key)
     let at = usize::from(number) - 1;
     let mut cursor = Cursor::new(values);
     for field in &fields[..at] {
-        let _passed = cursor.read(field.kind);
+        let _passed = cursor.read(field.form());
     }
-    let kind = fields[at].kind;
-    let value = cursor.read(kind).unwrap();
-    value.write_key_part(kind, into);
+    let form = fields[at].form();
+    let value = cursor.read(form).unwrap();
+    value.write_key_part(form, into);
 }
 
 /// Whether these values may be a key of an image of these of the fields, in this order. If not, the
@@ -63,7 +63,7 @@ pub fn key_fits(fields: &[FieldDef], which: &[u8], key: &Tuple) -> Result<(), u8
     let mut number = 1;
     for (place, value) in which.iter().zip(values) {
         let field = &fields[usize::from(*place) - 1];
-        if !ValueRef::new(value).fits(field.kind) {
+        if !ValueRef::new(value).fits(field.form()) {
             return Err(number);
         }
         number += 1;
@@ -85,7 +85,7 @@ pub fn key_from(fields: &[FieldDef], which: &[u8], key: &Tuple, into: &mut Key)
 {
     for (place, value) in which.iter().zip(key.as_slice()) {
         let field = &fields[usize::from(*place) - 1];
-        ValueRef::new(value).write_key_part(field.kind, into);
+        ValueRef::new(value).write_key_part(field.form(), into);
     }
 }
 
@@ -103,10 +103,10 @@ pub fn least_key(fields: &[FieldDef], which: &[u8], into: &mut Key)
 /// The order of two keys, which is that of the values that they are made from.
 pub fn compare_keys(a: &Key, b: &Key) -> Ordering
     ensures bytes { result ≡ slice_cmp nat_cmp a.now b.now }
-    ensures values { (fields : List FieldKind) (first second : List Value)
+    ensures values { (fields : List FieldForm) (first second : List Value)
         → IsKeyOf fields first a.now → IsKeyOf fields second b.now
         → result ≡ values_cmp first second }
-    ensures same { (fields : List FieldKind) (first second : List Value)
+    ensures same { (fields : List FieldForm) (first second : List Value)
         → IsKeyOf fields first a.now → IsKeyOf fields second b.now
         → (a.now ≡ b.now) ↔ (first ≡ second) }
 {

@@ -1,10 +1,11 @@
 // Values that are borrowed: whether they fit a field, and how they are written.
 ghost use Rattle.std.specs.Prelude.{◌≡◌, ◌+◌, ◌-◌, ◌≤◌, ◌++◌, true, length, replicate, IfOk};
 ghost use Rattle.std.specs.List.{list_all};
-ghost use Rattle.rss_base.specs.TupleTypes.{is_allowed_byte, is_allowed_text, fits, IsStorable, field_width, value_bytes, with_sign_inverted, key_part, key_part_width};
-ghost use Rattle.rss_value.specs.ValueRefs.{value_of};
+ghost use Rattle.rss_base.specs.TupleTypes.{is_allowed_byte, is_allowed_text, fits, IsStorable, mark_width, marked_bytes, with_sign_inverted, marked_part, key_part_width};
+ghost use Rattle.rss_value.specs.ValueRefs.{value_of, mark_of, mark_bytes};
 
-use rss_base::{BODY_BYTES, Body, FieldKind, KEY_BYTES, Key, Text, Value};
+use crate::widths::key_kind_width;
+use rss_base::{BODY_BYTES, Body, BoundedBytes, FieldForm, FieldKind, KEY_BYTES, Key, Text, Value};
 use std::alloc::{AllocError, Global};
 use std::str;
 
@@ -16,6 +17,7 @@ const SIGN_BIT: u8 = 0x80;
 pub enum ValueRef<'a> {
     Int(i64),
     Text(&'a [u8]),
+    Undefined,
 }
 
 impl<'a> ValueRef<'a> {
@@ -25,6 +27,7 @@ impl<'a> ValueRef<'a> {
         match value {
             Value::Int(number) => ValueRef::Int(*number),
             Value::Text(text) => ValueRef::Text(text.as_slice()),
+            Value::Undefined => ValueRef::Undefined,
         }
     }
 
@@ -35,14 +38,16 @@ impl<'a> ValueRef<'a> {
         match self {
             ValueRef::Int(number) => Ok(Value::Int(*number)),
             ValueRef::Text(bytes) => Ok(Value::Text(Text::from_slice(alloc, bytes)?)),
+            ValueRef::Undefined => Ok(Value::Undefined),
         }
     }
 
-    /// Whether the value is of this kind.
-    pub fn fits(&self, kind: FieldKind) -> bool
-        ensures { result ≡ fits kind (value_of self.now) }
+    /// Whether a field of this form may hold the value.
+    pub fn fits(&self, form: FieldForm) -> bool
+        ensures { result ≡ fits form (value_of self.now) }
     {
-        match (self, kind) {
+        match (self, form.kind) {
+            (ValueRef::Undefined, _) => form.added,
             (ValueRef::Int(_), FieldKind::Int) => true,
             (ValueRef::Text(bytes), FieldKind::Text(most)) => {
                 bytes.len() <= usize::from(most) && is_allowed_text(bytes)
@@ -51,30 +56,36 @@ impl<'a> ValueRef<'a> {
         }
     }
 
-    /// Puts the value's bytes behind those that are there.
-    pub fn write(&self, kind: FieldKind, into: &mut Body)
-        requires fit { fits kind (value_of self.now) ≡ true }
-        requires room { length into.old + field_width kind ≤ BODY_BYTES }
-        ensures written { into.new ≡ into.old ++ value_bytes (value_of self.now) }
+    /// Puts the bytes that the value has in a field of this form behind those that are there.
+    pub fn write(&self, form: FieldForm, into: &mut Body)
+        requires fit { fits form (value_of self.now) ≡ true }
+        requires room { length into.old + length (marked_bytes form.added (value_of self.now))
+            ≤ BODY_BYTES }
+        ensures written { into.new ≡ into.old ++ marked_bytes form.added (value_of self.now) }
         ensures storable { IsStorable (value_of self.now) }
     {
+        self.push_mark(form.added, into);
         match self {
             ValueRef::Int(number) => into.extend_from_slice(&number.to_be_bytes()),
             ValueRef::Text(bytes) => {
                 into.push(bytes.len() as u8);
                 into.extend_from_slice(bytes);
             }
+            ValueRef::Undefined => {}
         }
     }
 
-    /// Puts the part of a key that a field of this kind has behind what is there.
-    pub fn write_key_part(&self, kind: FieldKind, into: &mut Key)
-        requires fit { fits kind (value_of self.now) ≡ true }
-        requires room { length into.old + key_part_width kind ≤ KEY_BYTES }
-        ensures written { into.new ≡ into.old ++ key_part kind (value_of self.now) }
+    /// Puts the part of a key that a field of this form has behind what is there.
+    pub fn write_key_part(&self, form: FieldForm, into: &mut Key)
+        requires fit { fits form (value_of self.now) ≡ true }
+        requires room { length into.old + key_part_width form ≤ KEY_BYTES }
+        ensures written { into.new
+            ≡ into.old ++ marked_part form.added form.kind (value_of self.now) }
         ensures storable { IsStorable (value_of self.now) }
     {
-        match (self, kind) {
+        self.push_mark(form.added, into);
+        match (self, form.kind) {
+            (ValueRef::Undefined, kind) => push_zeros(into, key_kind_width(kind)),
             (ValueRef::Int(number), _) => {
                 into.extend_from_slice(&invert_sign(number.to_be_bytes()));
             }
@@ -83,6 +94,25 @@ impl<'a> ValueRef<'a> {
                 push_zeros(into, usize::from(most) - bytes.len());
             }
             (ValueRef::Text(_), FieldKind::Int) => unreachable!(),
+        }
+    }
+
+    /// Puts the byte that stands before the value of an added field behind what is there.
+    fn push_mark<const N: usize>(&self, added: bool, into: &mut BoundedBytes<N>)
+        requires { length into.old + mark_width added ≤ N }
+        ensures { into.new ≡ into.old ++ mark_bytes added (value_of self.now) }
+    {
+        if added {
+            into.push(self.mark());
+        }
+    }
+
+    fn mark(&self) -> u8
+        ensures { result ≡ mark_of (value_of self.now) }
+    {
+        match self {
+            ValueRef::Int(_) | ValueRef::Text(_) => 1,
+            ValueRef::Undefined => 0,
         }
     }
 }

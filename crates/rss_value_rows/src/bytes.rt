@@ -1,5 +1,5 @@
 // Tuples as bytes, by bytes written out.
-use crate::harness::{Written, body_of, field, tuple_of};
+use crate::harness::{Written, added, body_of, field, tuple_of};
 use rss_asserts::{assert_same, assert_same_slices, assert_some};
 use rss_base::{FieldDef, FieldKind};
 use rss_value::decode;
@@ -51,6 +51,54 @@ fn tuples_have_these_bytes(rt: HostRuntime) -> Result<(), Fail> {
     assert_spelled(rt.alloc(), &[], ("no fields", &[], b""))
 }
 
+/// Values of an INT, an added INT and an added TEXT 3, and their bytes. Nothing stands for the values
+/// that are undefined at the right end.
+const ADDED: [(&str, [Written; 3], &[u8]); 6] = [
+    (
+        "none is given",
+        [Written::Int(7), Written::Undefined, Written::Undefined],
+        b"\0\0\0\0\0\0\0\x07",
+    ),
+    (
+        "the number is given",
+        [Written::Int(8), Written::Int(-5), Written::Undefined],
+        b"\0\0\0\0\0\0\0\x08\x01\xff\xff\xff\xff\xff\xff\xff\xfb",
+    ),
+    (
+        "the number is 0",
+        [Written::Int(8), Written::Int(0), Written::Undefined],
+        b"\0\0\0\0\0\0\0\x08\x01\0\0\0\0\0\0\0\0",
+    ),
+    (
+        "the text is given",
+        [Written::Int(9), Written::Undefined, Written::Text(b"ab")],
+        b"\0\0\0\0\0\0\0\x09\0\x01\x02ab",
+    ),
+    (
+        "the text is empty",
+        [Written::Int(9), Written::Undefined, Written::Text(b"")],
+        b"\0\0\0\0\0\0\0\x09\0\x01\0",
+    ),
+    (
+        "both are given",
+        [Written::Int(7), Written::Int(1), Written::Text(b"x")],
+        b"\0\0\0\0\0\0\0\x07\x01\0\0\0\0\0\0\0\x01\x01\x01x",
+    ),
+];
+
+#[test]
+fn values_of_added_fields_have_a_byte_before_them(rt: HostRuntime) -> Result<(), Fail> {
+    let fields = [
+        field(FieldKind::Int),
+        added(FieldKind::Int),
+        added(FieldKind::Text(3)),
+    ];
+    for (name, values, want) in &ADDED {
+        assert_spelled(rt.alloc(), &fields, (name, values, want))?;
+    }
+    Ok(())
+}
+
 /// How many of eight texts have 255 bytes while the others are empty, and how many bytes they are.
 const SIZES: [(usize, usize); 3] = [(8, 2048), (0, 8), (5, 1283)];
 
@@ -95,6 +143,41 @@ fn other_bytes_spell_no_tuple(rt: HostRuntime) -> Result<(), Fail> {
     for (case, bytes) in NO_TUPLES.iter().enumerate() {
         let found = decode(rt.alloc(), &fields, bytes)?.is_some();
         assert_same(&found, &false, case)?;
+    }
+    Ok(())
+}
+
+/// Bytes that spell no tuple of an INT, an added INT and an added TEXT 2.
+const NO_ADDED: [(&str, &[u8]); 8] = [
+    ("a 0 at the end", b"\0\0\0\0\0\0\0\x07\0"),
+    ("two of them", b"\0\0\0\0\0\0\0\x07\0\0"),
+    (
+        "a 0 behind the number",
+        b"\0\0\0\0\0\0\0\x07\x01\0\0\0\0\0\0\0\x08\0",
+    ),
+    ("a 1 at the end", b"\0\0\0\0\0\0\0\x07\x01"),
+    (
+        "a 2 before the number",
+        b"\0\0\0\0\0\0\0\x07\x02\0\0\0\0\0\0\0\x08",
+    ),
+    (
+        "no byte before the number",
+        b"\0\0\0\0\0\0\0\x07\xff\xff\xff\xff\xff\xff\xff\xfb",
+    ),
+    ("a text too long", b"\0\0\0\0\0\0\0\x07\0\x01\x03abc"),
+    ("a 0 behind the last", b"\0\0\0\0\0\0\0\x07\0\x01\x01a\0"),
+];
+
+#[test]
+fn other_bytes_spell_no_tuple_of_added_fields(rt: HostRuntime) -> Result<(), Fail> {
+    let fields = [
+        field(FieldKind::Int),
+        added(FieldKind::Int),
+        added(FieldKind::Text(2)),
+    ];
+    for (name, bytes) in &NO_ADDED {
+        let found = decode(rt.alloc(), &fields, bytes)?.is_some();
+        assert_same(&found, &false, *name)?;
     }
     Ok(())
 }

@@ -1,5 +1,5 @@
 // Which tuples fit, by values written out.
-use crate::harness::{Written, field, tuple_of};
+use crate::harness::{Written, added, field, tuple_of};
 use rss_asserts::assert_same;
 use rss_base::{FieldDef, FieldKind};
 use rss_value::fits;
@@ -82,6 +82,29 @@ fn the_first_misfit_is_named(rt: HostRuntime) -> Result<(), Fail> {
     for (count, values, want) in &MISFITS {
         let fields = fields.get(..*count).ok_or("too many fields")?;
         assert_fits(rt.alloc(), fields, values, *want)?;
+    }
+    Ok(())
+}
+
+const NONE: Written = Written::Undefined;
+
+/// Values of an INT and an added TEXT 2, and what `fits` says.
+const UNDEFINED: [(&[Written], Result<(), u8>); 8] = [
+    (&[INT, NONE], Ok(())),
+    (&[INT, TEXT], Ok(())),
+    (&[NONE, TEXT], Err(1)),
+    (&[NONE, NONE], Err(1)),
+    (&[INT, INT], Err(2)),
+    (&[INT, LONG], Err(2)),
+    (&[INT], Err(2)),
+    (&[INT, NONE, NONE], Err(3)),
+];
+
+#[test]
+fn only_an_added_field_may_be_undefined(rt: HostRuntime) -> Result<(), Fail> {
+    let fields = [field(FieldKind::Int), added(FieldKind::Text(2))];
+    for (values, want) in &UNDEFINED {
+        assert_fits(rt.alloc(), &fields, values, *want)?;
     }
     Ok(())
 }

@@ -14,15 +14,29 @@ use std::alloc::{AllocError, Global};
 pub(crate) enum Written {
     Int(i64),
     Text(&'static [u8]),
+    Undefined,
 }
 
 const FIELD: Name = Name {
     bytes: *b"a\0\0\0\0\0\0\0\0\0\0\0\0\0\0\0",
 };
 
-/// A field of this kind; its name plays no part.
+/// An original field of this kind; its name plays no part.
 pub(crate) fn field(kind: FieldKind) -> FieldDef {
-    FieldDef { name: FIELD, kind }
+    FieldDef {
+        name: FIELD,
+        kind,
+        added: false,
+    }
+}
+
+/// An added field of this kind.
+pub(crate) fn added(kind: FieldKind) -> FieldDef {
+    FieldDef {
+        name: FIELD,
+        kind,
+        added: true,
+    }
 }
 
 pub(crate) fn tuple_of(alloc: Global, values: &[Written]) -> Result<Tuple, AllocError> {
@@ -37,6 +51,7 @@ fn value_of(alloc: Global, value: Written) -> Result<Value, AllocError> {
     match value {
         Written::Int(number) => Ok(Value::Int(number)),
         Written::Text(bytes) => Ok(Value::Text(Text::from_slice(alloc, bytes)?)),
+        Written::Undefined => Ok(Value::Undefined),
     }
 }
 

@@ -1,5 +1,5 @@
 // Keys, by bytes written out and by the order of the values.
-use crate::harness::{Written, field, key_of, tuple_of};
+use crate::harness::{Written, added, field, key_of, tuple_of};
 use rss_asserts::{assert_same, assert_same_slices, assert_some};
 use rss_base::{FieldKind, Key};
 use rss_value::compare_keys;
@@ -95,5 +95,62 @@ fn texts_before_numbers(rt: HostRuntime) -> Result<(), Fail> {
     let one = key_of_both(rt.alloc(), &[2, 1], 7, b"a")?;
     let other = key_of_both(rt.alloc(), &[2, 1], -1, b"ab")?;
     assert_same(&compare_keys(&one, &other), &Ordering::Less, "a and ab")?;
+    Ok(())
+}
+
+/// Values of an added INT in their order, and the bytes of their keys.
+const ADDED_NUMBERS: [(Written, &[u8]); 5] = [
+    (Written::Undefined, b"\0\0\0\0\0\0\0\0\0"),
+    (Written::Int(i64::MIN), b"\x01\0\0\0\0\0\0\0\0"),
+    (Written::Int(-5), b"\x01\x7f\xff\xff\xff\xff\xff\xff\xfb"),
+    (Written::Int(0), b"\x01\x80\0\0\0\0\0\0\0"),
+    (
+        Written::Int(i64::MAX),
+        b"\x01\xff\xff\xff\xff\xff\xff\xff\xff",
+    ),
+];
+
+/// Values of an added TEXT 2 in their order, and the bytes of their keys.
+const ADDED_TEXTS: [(Written, &[u8]); 4] = [
+    (Written::Undefined, b"\0\0\0"),
+    (Written::Text(b""), b"\x01\0\0"),
+    (Written::Text(b"a"), b"\x01a\0"),
+    (Written::Text(b"ab"), b"\x01ab"),
+];
+
+/// The key of an added number and an added text, in this order of the two.
+fn key_of_added(alloc: Global, which: &[u8], values: &[Written; 2]) -> Result<Key, Fail> {
+    let fields = [added(FieldKind::Int), added(FieldKind::Text(2))];
+    let tuple = tuple_of(alloc, values)?;
+    assert_some(key_of(&fields, which, &tuple), (which, values))
+}
+
+#[test]
+fn a_part_of_an_added_field_has_a_byte_before_it(rt: HostRuntime) -> Result<(), Fail> {
+    for (number, want) in &ADDED_NUMBERS {
+        let key = key_of_added(rt.alloc(), &[1], &[*number, Written::Undefined])?;
+        assert_same_slices(key.as_slice(), want, number)?;
+    }
+    for (text, want) in &ADDED_TEXTS {
+        let key = key_of_added(rt.alloc(), &[2], &[Written::Undefined, *text])?;
+        assert_same_slices(key.as_slice(), want, text)?;
+    }
+    Ok(())
+}
+
+#[test]
+fn what_is_undefined_comes_first(rt: HostRuntime) -> Result<(), Fail> {
+    for (a, (one, _)) in ADDED_NUMBERS.iter().enumerate() {
+        for (b, (other, _)) in ADDED_NUMBERS.iter().enumerate() {
+            for (at, (first, _)) in ADDED_TEXTS.iter().enumerate() {
+                for (place, (second, _)) in ADDED_TEXTS.iter().enumerate() {
+                    let left = key_of_added(rt.alloc(), &[1, 2], &[*one, *first])?;
+                    let right = key_of_added(rt.alloc(), &[1, 2], &[*other, *second])?;
+                    let want = a.cmp(&b).then(at.cmp(&place));
+                    assert_same(&compare_keys(&left, &right), &want, (a, b, at, place))?;
+                }
+            }
+        }
+    }
     Ok(())
 }

@@ -4,7 +4,7 @@ use Rattle.std.proofs.Math.Logic.{∥∥₁_map}
 use Rattle.std.proofs.lemmas.Result.{IfOk-weaker}
 use Rattle.rss_base.specs.Steps.{PagesCall, no_page}
 use Rattle.rss_base.specs.TupleTypes.{SpellsSome}
-use Rattle.rss_base.specs.declared.value.FieldKind.{FieldKind}
+use Rattle.rss_base.specs.declared.value.FieldForm.{FieldForm}
 use Rattle.rss_image.specs.declared.image.Image.{Image}
 use Rattle.rss_image.specs.Images.{HasImage}
 use Rattle.rss_tuple.proofs.Seen.{on_ok}
@@ -18,7 +18,7 @@ find_owner-requires-clause-width g c = key_width_passed c.image_of-image.ensures
 pub find_owner-requires-clause-spelled : goal.find_owner-requires-clause-spelled
 find_owner-requires-clause-spelled g c =
     let listed = c.image_of-image.ensures.listed in
-    subst (λ (fields : List FieldKind). SpellsSome fields c.args.values.now) (ap (λ (k : KeyKinds). k.fields) (sym (c.key_fields-key.ensures.is listed.image listed.relation listed.at)))
+    subst (λ (fields : List FieldForm). SpellsSome fields c.args.values.now) (ap (λ (k : KeyKinds). k.fields) (sym (c.key_fields-key.ensures.is listed.image listed.relation listed.at)))
     (c.requires.spelled listed.image listed.relation listed.at)
 
 pub find_owner-requires-clause-there : goal.find_owner-requires-clause-there

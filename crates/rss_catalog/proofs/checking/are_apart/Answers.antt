@@ -1,4 +1,4 @@
-use Rattle.std.proofs.Common.{◌≡◌, ◌∙◌, ℕ, [], take, length, Some, None, sym, subst, arith}
+use Rattle.std.proofs.Common.{◌≡◌, ◌∙◌, ℕ, false, [], take, length, Some, None, sym, subst, arith}
 use Rattle.std.proofs.lemmas.List.{length-set, length-map, take_all, get_or-map}
 use Rattle.rss_base.specs.declared.field.FieldDef.{FieldDef}
 use Rattle.rss_base.specs.declared.value.FieldKind.TheVariants.{Int}
@@ -9,7 +9,7 @@ use Rattle.rss_catalog.proofs.checking.are_apart.Goals as goal
 pub loop-place-preserved : goal.loop-place-preserved
 loop-place-preserved c =
     let fields = c.args.fields.now in
-    let some : FieldDef = record { name = record { bytes = [] }; kind = Int } in
+    let some : FieldDef = record { name = record { bytes = [] }; kind = Int; added = false } in
     record {
       long = length-set c.loop-place.names _ _ ∙ c.loop-place.invariant.long;
       same = put_more c.loop-place.names (named_fields fields) c.loop-place.place _ None (omega (arith, c.loop-place.invariant.long, c.loop-place-test.true, c.requires)) (omega (arith, length-map fields (λ (field : FieldDef). Some field.name), c.loop-place-test.true)) c.loop-place.invariant.same

@@ -18,6 +18,9 @@ returns-then-width-gt-MOST_WIDTH c = (λ it. absurd (cc), λ are. absurd (omega 
 pub returns-then-not-are_field_names : goal.returns-then-not-are_field_names
 returns-then-not-are_field_names c = (λ it. absurd (cc), λ are. sym c.if-not-are_field_names.true ∙ c.are_field_names.ensures.1 (fields_tested c.args.fields.now are).names)
 
+pub returns-then-not-are_original : goal.returns-then-not-are_original
+returns-then-not-are_original c = (λ it. absurd (cc), λ are. sym c.if-not-are_original.true ∙ c.are_original.ensures.1 are.original)
+
 pub returns : goal.returns
 returns c = (
   λ it. tested_fields c.args.fields.now (record {
@@ -27,6 +30,7 @@ returns c = (
     narrow = omega (arith, c.width.ensures, c.if-width-gt-MOST_WIDTH.false);
     names = c.are_field_names.ensures.0 c.if-not-are_field_names.false;
     apart = c.are_apart.ensures.0 it;
+    original = c.are_original.ensures.0 c.if-not-are_original.false;
   }),
   λ are. c.are_apart.ensures.1 are.apart,
 )

@@ -2,7 +2,7 @@
 use Rattle.std.proofs.Common.{◌∙◌, ◌≡◌, sym, ap, List, arith}
 use Rattle.std.proofs.lemmas.Bool.{leb-true, le-leb}
 use Rattle.rss_base.specs.TupleTypes.{kinds, chosen, key_width}
-use Rattle.rss_base.specs.declared.value.FieldKind.{FieldKind}
+use Rattle.rss_base.specs.declared.value.FieldForm.{FieldForm}
 use Rattle.rss_catalog.proofs.Keyed.{chosen_kinds, numbers_of}
 use Rattle.rss_catalog.proofs.checking.is_key.Goals as goal
 
@@ -17,7 +17,7 @@ key_width-requires-clause-numbers c = numbers_of c.args.fields.now c.args.number
 
 pub returns : goal.returns
 returns c =
-    let width : c.key_width.result ≡ key_width (kinds (chosen c.args.numbers.now c.args.fields.now)) = c.key_width.ensures ∙ ap (λ (l : List FieldKind). key_width l) (sym (chosen_kinds c.args.numbers.now c.args.fields.now)) in (
+    let width : c.key_width.result ≡ key_width (kinds (chosen c.args.numbers.now c.args.fields.now)) = c.key_width.ensures ∙ ap (λ (l : List FieldForm). key_width l) (sym (chosen_kinds c.args.numbers.now c.args.fields.now)) in (
       λ it. record {
         within = c.are_numbers.ensures.0 c.if-not-are_numbers.false;
         different = c.are_different.ensures.0 c.if-not-are_different.false;

@@ -1,13 +1,7 @@
 -- The parts are put one behind another, and zeros behind them.
-use Rattle.std.proofs.Common.{◌≡◌, ◌∙◌, ◌++◌, ℕ, List, Bool, true, false, refl, ap, length, arith}
-use mir.Val.{bool_byte}
-use Rattle.rss_base.specs.Listings.{flag_byte}
-use Rattle.rss_catalog.proofs.Imaged.{put_image}
+use Rattle.std.proofs.Common.{◌≡◌, ◌∙◌, ◌++◌, ℕ, List, ap, length, arith}
+use Rattle.rss_catalog.proofs.Imaged.{flag_is, put_image}
 use Rattle.rss_catalog.proofs.encoding.put_image_entry.Goals as goal
-
-flag_is : (flag : Bool) → bool_byte flag ≡ flag_byte flag
-flag_is true = refl
-flag_is false = refl
 
 pub returns-clause-put : goal.returns-clause-put
 returns-clause-put c =

@@ -1,13 +1,13 @@
 use Rattle.std.proofs.Common.{◌≡◌, ◌<◌, ℕ, List, sym, ◌∙◌, ap, subst}
 use Rattle.rss_base.specs.TupleTypes.{kinds, chosen, Spells, IsKeyOf}
 use Rattle.rss_base.specs.Listings.{field_numbers}
-use Rattle.rss_base.specs.declared.value.FieldKind.{FieldKind}
+use Rattle.rss_base.specs.declared.value.FieldForm.{FieldForm}
 use Rattle.rss_image.specs.Images.{FindsAnother}
 use Rattle.rss_image.specs.declared.image.Image.{Image}
 use Rattle.rss_entries.specs.Moving.{KeyKinds}
 use Rattle.rss_entries.specs.Seeking.{kinds_in}
 use Rattle.rss_entries.proofs.Entries.{length-key}
-use Rattle.rss_model.proofs.ImageFields.{chosen_kinds}
+use Rattle.rss_stored.proofs.ImageFields.{chosen_kinds}
 use Rattle.rss_entries.proofs.Owners.{owner_found}
 use Rattle.rss_entries.proofs.Telling.{shown, shown_tree}
 use Rattle.rss_entries.proofs.seeking.find_owner.Goals as goal
@@ -24,10 +24,10 @@ returns-clause-owner g c = λ told listing tables number entry relation shows im
     let tree = shown_tree view shows few (g.met.P.Pages.holds c.args.pages.now told) (g.met.P.Pages.allowed c.args.pages.now) in
     let fields : kinds c.args.key.fields.now ≡ kinds relation.fields = ap (λ (k : KeyKinds). k.fields) key_is in
     let which : c.args.key.which.now ≡ field_numbers entry = ap (λ (k : KeyKinds). k.which) key_is in
-    let given : Spells (kinds c.args.key.fields.now) c.args.values.now values = subst (λ (ks : List FieldKind). Spells ks c.args.values.now values) (sym fields) spelled in
+    let given : Spells (kinds c.args.key.fields.now) c.args.values.now values = subst (λ (ks : List FieldForm). Spells ks c.args.values.now values) (sym fields) spelled in
     let kinds_are : chosen c.args.key.which.now (kinds c.args.key.fields.now) ≡ kinds_in entry relation = (λ i. chosen (which i) (fields i)) ∙ chosen_kinds (field_numbers entry) relation.fields in
     let made : IsKeyOf (kinds_in entry relation) (chosen (field_numbers entry) values) c.key.new.into =
-    subst (λ (ks : List FieldKind). IsKeyOf ks (chosen (field_numbers entry) values) c.key.new.into) kinds_are
+    subst (λ (ks : List FieldForm). IsKeyOf ks (chosen (field_numbers entry) values) c.key.new.into) kinds_are
     (subst (λ (ns : List ℕ). IsKeyOf (chosen c.args.key.which.now (kinds c.args.key.fields.now)) (chosen ns values) c.key.new.into) which (c.key.ensures values given)) in
     let another = subst (λ (i : Image). FindsAnother c.key.new.into c.args.own i view c.in_ok-found.found) image_is (c.in_ok-found.ensures.found told) in
     owner_found (shown shows) values c.key.new.into made c.args.own c.in_ok-found.found c.is_tid_sized.ensures c.is_tid_sized-2.ensures single (another _ tree)

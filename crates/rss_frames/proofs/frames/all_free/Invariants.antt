@@ -1,5 +1,5 @@
 use Rattle.std.proofs.Common.{◌≡◌, ℕ, ◌<◌, length}
-use Rattle.rss_chains.specs.Lists.{Has}
+use Rattle.rss_frames.specs.Lists.{Has}
 use Rattle.rss_frames.proofs.frames.all_free.Given as goal
 
 abbrev pub invariant-loop-frame : goal.invariant-loop-frame

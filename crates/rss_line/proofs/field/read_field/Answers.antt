@@ -1,4 +1,4 @@
-use Rattle.std.proofs.Common.{◌≡◌, ◌∙◌, List, ℕ, ◌++◌, sym, subst, ap, ap₂, arith, Some, codes}
+use Rattle.std.proofs.Common.{◌≡◌, ◌∙◌, List, ℕ, ◌++◌, refl, sym, subst, ap, ap₂, arith, Some, codes}
 use Rattle.rss_model.specs.Script.{IsNameWord}
 use Rattle.rss_line.proofs.Combining.{some_same, none_some}
 use Rattle.rss_line.proofs.Tids.{cut_at}
@@ -34,8 +34,8 @@ returns c =
     let cut : c.args.word.now ≡ c.in_ok-name.name.now ++ codes ":" ++ c.in_ok-name.kind.now =
     cut_at 58 (omega arith) c.args.word.now c.split_once.result _ c.split_once.ensures.cases c.in_ok-name.was in
     record {
-      some = record { spelled = cut ∙ ap₂ (λ n k. n ++ codes ":" ++ k) (sym c.as_bytes.ensures.value ∙ name.spelled) kind.spelled; is_name = name.is_name; kind = kind.allowed };
+      some = record { spelled = cut ∙ ap₂ (λ n k. n ++ codes ":" ++ k) (sym c.as_bytes.ensures.value ∙ name.spelled) kind.spelled; is_name = name.is_name; kind = kind.allowed; original = refl };
       all = λ field is.
           let parts = field_parts c.args.word.now c.split_once.result field c.split_once.ensures.cases is _ c.in_ok-name.was in
-          ap Some (same_field _ field (some_same (c.in_ok-name-2.ensures.all field.name (subst (λ (w : List ℕ). IsNameWord w field.name) (sym c.as_bytes.ensures.value) parts.0))) (some_same (c.in_ok-kind.ensures.all field.kind parts.1)));
+          ap Some (same_field _ field (some_same (c.in_ok-name-2.ensures.all field.name (subst (λ (w : List ℕ). IsNameWord w field.name) (sym c.as_bytes.ensures.value) parts.0))) (some_same (c.in_ok-kind.ensures.all field.kind parts.1)) (sym is.original));
     }

@@ -2,7 +2,7 @@ use Rattle.std.proofs.Common.{sym, ◌∙◌, arith}
 use Rattle.rss_base.specs.Listings.{link_at}
 use Rattle.rss_base.specs.declared.relation.RelationEntry.{RelationEntry}
 use Rattle.rss_base.specs.declared.link.LinkEntry.{LinkEntry}
-use Rattle.rss_model.specs.Store.{IsListedLink}
+use Rattle.rss_stored.specs.Store.{IsListedLink}
 use Rattle.rss_model.proofs.LogLists.{false_true, some_of}
 use Rattle.rss_members.specs.Calls.{both}
 use Rattle.rss_link.proofs.TupleSteps.{stepped, then, then_call, done, fails, told_then, told_before, within}

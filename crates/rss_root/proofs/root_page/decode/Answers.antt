@@ -14,9 +14,9 @@ returns-then-eq-clause-some c =
 pub returns-else-is_well_formed-clause-none : goal.returns-else-is_well_formed-clause-none
 returns-else-is_well_formed-clause-none c = λ root is.
     let page = c.args.page.now in
-    let read : Root = record { slots = c.u32_at.result; log_pages = c.u32_at-2.result; area = get_or page 16 0; head = c.u64_at.result; checkpoint = c.u64_at-2.result; end = c.u64_at-end.result; tail = c.from_slice.result } in
+    let read : Root = record { version = get_or page 5 0; slots = c.u32_at.result; log_pages = c.u32_at-2.result; area = get_or page 16 0; head = c.u64_at.result; checkpoint = c.u64_at-2.result; end = c.u64_at-end.result; tail = c.from_slice.result } in
     let tail : c.from_slice.result ≡ tail_in page c.u64_at-end.result = c.from_slice.ensures ∙ ap (λ (n : ℕ). take n (drop 96 page)) (omega arith) in
-    let same : read ≡ root = same_fields read (root_in page) c.u32_at.ensures c.u32_at-2.ensures refl c.u64_at.ensures c.u64_at-2.ensures c.u64_at-end.ensures (tail ∙ ap (tail_in page) c.u64_at-end.ensures) ∙ read_back page root is in
+    let same : read ≡ root = same_fields read (root_in page) refl c.u32_at.ensures c.u32_at-2.ensures refl c.u64_at.ensures c.u64_at-2.ensures c.u64_at-end.ensures (tail ∙ ap (tail_in page) c.u64_at-end.ensures) ∙ read_back page root is in
     elim c.else-is_well_formed.branch [
       | else-is_well_formed-via-then-is_well_formed+else-eq w ↦
           let apart = other_text page w.encode.result (sym w.if-eq.false ∙ w.eq.ensures) in

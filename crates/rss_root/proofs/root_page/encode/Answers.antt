@@ -7,8 +7,10 @@ use Rattle.rss_root.proofs.root_page.encode.Goals as goal
 pub returns : goal.returns
 returns c =
     let root = c.args.root.now in
-    let mark : List ℕ = codes "RSSR" ++ 0 ∷ 1 ∷ [] in
-    let one : c.put_bytes.new.page ≡ mark ++ replicate 4090 0 = field_put [] mark (replicate 4096 0) mark _ 0 4096 0 4090 refl refl c.put_bytes.ensures refl refl in
+    let front : List ℕ = codes "RSSR" ++ 0 ∷ [] in
+    let zero : c.put_bytes.new.page ≡ front ++ replicate 4091 0 = field_put [] front (replicate 4096 0) front _ 0 4096 0 4091 refl refl c.put_bytes.ensures refl refl in
+    let mark : List ℕ = front ++ root.version ∷ [] in
+    let one : set c.put_bytes.new.page 5 root.version ≡ mark ++ replicate 4090 0 = byte_put front _ root.version 5 4091 4090 zero refl refl in
     let to_slots : List ℕ = mark ++ replicate 2 0 ++ to_be_bytes w32 root.slots in
     let two : c.put_bytes-2.new.page ≡ to_slots ++ replicate 4084 0 = field_put mark (to_be_bytes w32 root.slots) _ _ _ 8 4090 2 4084 one c.to_be_bytes.ensures c.put_bytes-2.ensures refl refl in
     let to_log : List ℕ = to_slots ++ to_be_bytes w32 root.log_pages in

@@ -1,6 +1,6 @@
 use Rattle.std.proofs.Common.{◌≡◌, ◌<◌, ◌≤◌, true}
 use Rattle.rss_base.specs.declared.key.PageKey.{PageKey}
-use Rattle.rss_model.specs.Store.{IsStorePage}
+use Rattle.rss_stored.specs.Store.{IsStorePage}
 use Rattle.rss_store.proofs.checking.first_foreign.Given as goal
 
 abbrev pub invariant-loop-segment : goal.invariant-loop-segment

@@ -1,6 +1,6 @@
 use Rattle.std.proofs.Common.{Err, ◌∙◌, ap, arith}
 use Rattle.std.proofs.lemmas.Result.{err_from_is_err_and}
-use Rattle.rss_model.specs.Store.{at_root, at_map}
+use Rattle.rss_stored.specs.Store.{at_root, at_map}
 use Rattle.rss_base.proofs.Moments.{reads_none}
 use Rattle.rss_pagemap.proofs.Areas.{one_answer}
 use Rattle.rss_store.proofs.Unopened.{refused_layout, unopened_layout, unopened_room, unopened_spent, opens_then}

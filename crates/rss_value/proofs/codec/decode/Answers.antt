@@ -9,10 +9,10 @@ use Rattle.rss_value.proofs.codec.decode.Goals as goal
 pub loop-field-preserved : goal.loop-field-preserved
 loop-field-preserved c =
     let done : c.push.new.self ≡ c.loop-field.tuple ++ value_of c.in-Some.value ∷ [] = c.in_ok-push.ensures.ok ∙ ap (λ (v : Value). c.loop-field.tuple ++ v ∷ []) c.in_ok-to_value.ensures in
-    subst (Decoding (kinds c.args.fields.now) c.args.bytes.now _ c.read.new.self) (sym done) (decoding_more c.args.fields.now _ c.loop-field.field-index _ _ _ _ _ (omega arith) c.loop-field.invariant c.in-Some.ensures.some)
+    subst (Decoding (kinds c.args.fields.now) c.args.bytes.now _ c.read.new.self) (sym done) (decoding_more c.args.fields.now _ c.loop-field.field-index _ _ _ _ _ (omega arith) c.loop-field.invariant (rw c.form.ensures at c.in-Some.ensures.some))
 
 pub returns-in_default-clause-exact : goal.returns-in_default-clause-exact
-returns-in_default-clause-exact c values spelled = absurd (decoding_none c.args.fields.now _ c.loop-field.field-index _ _ _ _ values (omega arith) c.loop-field.invariant c.in_default.ensures spelled)
+returns-in_default-clause-exact c values spelled = absurd (decoding_none c.args.fields.now _ c.loop-field.field-index _ _ _ _ values (omega arith) c.loop-field.invariant (rw c.form.ensures at c.in_default.ensures) spelled)
 
 pub returns-then-is_at_end-clause-some : goal.returns-then-is_at_end-clause-some
 returns-then-is_at_end-clause-some c = decoded c.args.fields.now _ c.loop-field.field-index _ _ (omega arith) c.loop-field.invariant (c.if-is_at_end.ensures.0 refl)

@@ -3,7 +3,7 @@ use Rattle.std.proofs.lemmas.List.{length_push}
 use Rattle.std.proofs.lemmas.Slice.Zip.{zip_turn, zip_end}
 use Rattle.std.specs.Slice.Iter.{iter_rest}
 use Rattle.std.specs.Iterator.Adapters.{zip_first, zip_second}
-use Rattle.rss_base.specs.TupleTypes.{kinds, misfit_from}
+use Rattle.rss_base.specs.TupleTypes.{form_of, kinds, misfit_from}
 use Rattle.rss_value.specs.ValueRefs.{value_of}
 use Rattle.rss_value.proofs.Fitting.{misfit_here, misfit_behind, misfit_end, at_place}
 use Rattle.rss_value.proofs.codec.fits.Goals as goal
@@ -18,7 +18,7 @@ returns-then-not-fits-clause-first c =
     c.in-Some.is c.next.ensures.steps in
     c.loop-field.invariant.3
     ∙ misfit_here c.loop-field.number _ _ (length c.loop-field.yielded) c.in-Some.field.now c.in-Some.value.now turn.0 turn.1
-    (at_place c.args.fields.now c.args.tuple.now (length c.loop-field.yielded) c.in-Some.field.now c.in-Some.value.now (value_of c.new.result) false (turn.2 c.in-Some.field.now) (turn.3 c.in-Some.value.now) c.new.ensures (sym c.fits.ensures ∙ refused))
+    (at_place c.args.fields.now c.args.tuple.now (length c.loop-field.yielded) c.in-Some.field.now c.form.result c.in-Some.value.now (value_of c.new.result) false (c.form.ensures ∙ ap form_of (turn.2 c.in-Some.field.now)) (turn.3 c.in-Some.value.now) c.new.ensures (sym c.fits.ensures ∙ refused))
 
 pub loop-field-preserved : goal.loop-field-preserved
 loop-field-preserved c =
@@ -30,7 +30,7 @@ loop-field-preserved c =
     c.in-Some.is c.next.ensures.steps in
     let behind =
     misfit_behind c.loop-field.number _ _ (length c.loop-field.yielded) c.in-Some.field.now c.in-Some.value.now turn.0 turn.1
-    (at_place c.args.fields.now c.args.tuple.now (length c.loop-field.yielded) c.in-Some.field.now c.in-Some.value.now (value_of c.new.result) true (turn.2 c.in-Some.field.now) (turn.3 c.in-Some.value.now) c.new.ensures (sym c.fits.ensures ∙ accepted)) in
+    (at_place c.args.fields.now c.args.tuple.now (length c.loop-field.yielded) c.in-Some.field.now c.form.result c.in-Some.value.now (value_of c.new.result) true (c.form.ensures ∙ ap form_of (turn.2 c.in-Some.field.now)) (turn.3 c.in-Some.value.now) c.new.ensures (sym c.fits.ensures ∙ accepted)) in
     let long : length (c.loop-field.yielded ++ (c.in-Some.field, c.in-Some.value) ∷ []) ≡ length c.loop-field.yielded + 1 = length_push c.loop-field.yielded (c.in-Some.field, c.in-Some.value) in (
       (tt, tt),
       tt,

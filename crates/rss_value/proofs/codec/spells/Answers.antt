@@ -7,12 +7,12 @@ use Rattle.rss_value.proofs.codec.spells.Goals as goal
 pub loop-field-preserved : goal.loop-field-preserved
 loop-field-preserved c =
     let some : is_some c.read.result ≡ true = search rules in
-    read_more c.args.fields.now _ c.loop-field.field-index _ _ _ c.read.result (omega arith) c.loop-field.invariant c.read.ensures some
+    read_more c.args.fields.now _ c.loop-field.field-index _ _ _ c.read.result (omega arith) c.loop-field.invariant (rw c.form.ensures at c.read.ensures) some
 
 pub returns-then-is_none-clause-exact : goal.returns-then-is_none-clause-exact
 returns-then-is_none-clause-exact c =
     let none : is_some c.read.result ≡ false = search rules in
-    (λ wrong. absurd (search rules), λ some. absurd (none_read c.args.fields.now _ c.loop-field.field-index _ _ _ c.read.result (omega arith) c.loop-field.invariant c.read.ensures none some))
+    (λ wrong. absurd (search rules), λ some. absurd (none_read c.args.fields.now _ c.loop-field.field-index _ _ _ c.read.result (omega arith) c.loop-field.invariant (rw c.form.ensures at c.read.ensures) none some))
 
 pub returns-then-is_none-clause-read : goal.returns-then-is_none-clause-read
 returns-then-is_none-clause-read c = is_that_test (kinds c.args.fields.now) c.args.bytes.now false (returns-then-is_none-clause-exact c)

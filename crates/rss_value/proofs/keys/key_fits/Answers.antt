@@ -5,14 +5,14 @@ use Rattle.std.specs.Slice.Iter.{iter_rest}
 use Rattle.std.specs.Iterator.Adapters.{zip_first, zip_second}
 use Rattle.rss_base.specs.declared.field.FieldDef.{FieldDef}
 use Rattle.rss_base.specs.declared.value.FieldKind.TheVariants.{Int}
-use Rattle.rss_base.specs.TupleTypes.{kinds, chosen, misfit_from}
+use Rattle.rss_base.specs.TupleTypes.{form_of, kinds, chosen, misfit_from}
 use Rattle.rss_value.specs.ValueRefs.{value_of}
 use Rattle.rss_value.proofs.Fitting.{misfit_here, misfit_behind, misfit_end, at_place}
 use Rattle.rss_value.proofs.GivenKeys.{field_read, length-chosen, none_left}
 use Rattle.rss_value.proofs.keys.key_fits.Goals as goal
 
 abbrev any_field : FieldDef
-any_field = record { name = record { bytes = [] }; kind = Int }
+any_field = record { name = record { bytes = [] }; kind = Int; added = false }
 
 pub returns-then-not-fits-clause-first : goal.returns-then-not-fits-clause-first
 returns-then-not-fits-clause-first c =
@@ -28,7 +28,7 @@ returns-then-not-fits-clause-first c =
     let here = field_read c.args.fields.now c.args.which.now (length c.loop-place.yielded) c.in-Some.place.now c.from.result any_field field c.requires.numbers turn.0 (turn.2 0) c.from.ensures in
     c.loop-place.invariant.3
     ∙ misfit_here c.loop-place.number _ _ (length c.loop-place.yielded) field c.in-Some.value.now within turn.1
-    (at_place fields c.args.key.now (length c.loop-place.yielded) field c.in-Some.value.now (value_of c.new.result) false here (turn.3 c.in-Some.value.now) c.new.ensures (sym c.fits.ensures ∙ refused))
+    (at_place fields c.args.key.now (length c.loop-place.yielded) field c.form.result c.in-Some.value.now (value_of c.new.result) false (c.form.ensures ∙ ap form_of here) (turn.3 c.in-Some.value.now) c.new.ensures (sym c.fits.ensures ∙ refused))
 
 pub loop-place-preserved : goal.loop-place-preserved
 loop-place-preserved c =
@@ -44,7 +44,7 @@ loop-place-preserved c =
     let here = field_read c.args.fields.now c.args.which.now (length c.loop-place.yielded) c.in-Some.place.now c.from.result any_field field c.requires.numbers turn.0 (turn.2 0) c.from.ensures in
     let behind =
     misfit_behind c.loop-place.number _ _ (length c.loop-place.yielded) field c.in-Some.value.now within turn.1
-    (at_place fields c.args.key.now (length c.loop-place.yielded) field c.in-Some.value.now (value_of c.new.result) true here (turn.3 c.in-Some.value.now) c.new.ensures (sym c.fits.ensures ∙ accepted)) in
+    (at_place fields c.args.key.now (length c.loop-place.yielded) field c.form.result c.in-Some.value.now (value_of c.new.result) true (c.form.ensures ∙ ap form_of here) (turn.3 c.in-Some.value.now) c.new.ensures (sym c.fits.ensures ∙ accepted)) in
     let long : length (c.loop-place.yielded ++ (c.in-Some.place, c.in-Some.value) ∷ []) ≡ length c.loop-place.yielded + 1 = length_push c.loop-place.yielded (c.in-Some.place, c.in-Some.value) in (
       (tt, tt),
       tt,

@@ -3,7 +3,7 @@ use Rattle.std.specs.Prelude.{Ok}
 use Rattle.rss_base.specs.declared.key.PageKey.{PageKey}
 use Rattle.rss_base.specs.StoredPages.{mapped_by}
 use Rattle.rss_shadow.specs.Maps.{Maps}
-use Rattle.rss_buffer.specs.Frames.{Frame, frame_in}
+use Rattle.rss_frames.specs.Frames.{Frame, frame_in}
 use Rattle.rss_buffer.specs.Gathered.{IsWritten}
 use Rattle.rss_buffer.proofs.Saves.{one_written, all_written}
 use Rattle.rss_buffer.proofs.Turns.{WritesPages-none, WritesPages-then, WritesPages-fails}
@@ -19,8 +19,8 @@ pub loop-slot-preserved : goal.loop-slot-preserved
 loop-slot-preserved g c =
     let so_far = c.loop-slot.invariant in
     let owners = c.args.self.now.shadow.current in
-    let frames = frame_in c.loop-slot.self.frames.cache in
-    let frames_now = frame_in c.flush_slot.new.self.frames.cache in
+    let frames = frame_in c.loop-slot.self.frames in
+    let frames_now = frame_in c.flush_slot.new.self.frames in
     let now = subst (λ (m : Maps). IsWritten m.current frames_now c.loop-slot.slot) so_far.did.keeps.maps c.in_ok-flush_slot.ensures.written in
     record {
       written = one_written owners frames frames_now c.loop-slot.slot now c.flush_slot.ensures.did.keeps.waiting so_far.written;
@@ -34,6 +34,6 @@ pub returns-clause-none_changed : goal.returns-clause-none_changed
 returns-clause-none_changed g c =
     let so_far = c.loop-slot.invariant in
     let owners = c.args.self.now.shadow.current in
-    let frames = frame_in c.loop-slot.self.frames.cache in
+    let frames = frame_in c.loop-slot.self.frames in
     let count : c.loop-slot.slot ≡ length owners = omega (arith, c.slots-slot-end.ensures.count, ap (λ (o : List (Option PageKey)). length o) c.current.ensures.current) in
     all_written owners frames c.loop-slot.slot count (subst (λ (m : Maps). (key : PageKey) (frame : Frame) → frames key ≡ Some frame → mapped_by m.current key ≡ true) so_far.did.keeps.maps c.loop-slot.self.holds.frames_hold.mapped) so_far.written

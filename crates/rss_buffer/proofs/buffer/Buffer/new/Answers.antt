@@ -4,7 +4,8 @@ use Rattle.rss_base.specs.StoredPages.{StandInSlots}
 use Rattle.rss_notes.specs.Marks.{told}
 use Rattle.rss_shadow.specs.Maps.{Maps}
 use Rattle.rss_frames.specs.Entries.{room}
-use Rattle.rss_buffer.specs.Frames.{frame_in, is_changed}
+use Rattle.rss_frames.specs.Frames.{frame_in}
+use Rattle.rss_buffer.specs.Waiting.{is_changed}
 use Rattle.rss_buffer.specs.Buffered.{BufferView, held_of}
 use Rattle.rss_buffer.specs.declared.stage.Stage.TheVariants.{Changing}
 use Rattle.rss_buffer.proofs.Elsewhere.{buffer_new}
@@ -25,13 +26,13 @@ returns-clause-held g c =
       first = c.slots_at.result;
       maps = record { current = c.args.table; shadow = c.args.table };
       notes = told c.in-Ok.notes;
-      frames = frame_in c.in-Ok.frames.cache;
+      frames = frame_in c.in-Ok.frames;
       settled = true;
       log_pages = c.args.root.now.log_pages;
       area = c.args.root.now.area;
       stage = Changing;
       asks = 0;
-      room = room c.in-Ok.frames.cache;
+      room = room c.in-Ok.frames;
     } in
     rw parts.maps
     (subst (λ (first : ℕ). Told device.disk (λ pages. StandInSlots first pages c.args.table (held_of b))) c.slots_at.ensures

@@ -3,7 +3,7 @@ use Rattle.rss_buffer.proofs.Runs.{run_of, holds-run, loose-run, run_waits, run_
 use Rattle.rss_buffer.proofs.Turns.{WritesPages-none}
 use Rattle.rss_buffer.proofs.Waits.{settles-run, writes-run}
 use Rattle.rss_buffer.specs.Devices.{buffer_view}
-use Rattle.rss_buffer.specs.Frames.{frame_in}
+use Rattle.rss_frames.specs.Frames.{frame_in}
 use Rattle.rss_buffer.specs.Gathered.{AreSettled}
 use Rattle.rss_buffer.proofs.buffer.Buffer.write_back.Goals as goal
 
@@ -51,7 +51,7 @@ invariant_of-self-2 g c =
     let place = ap (λ (n : ℕ). self.first_slot + n) c.from.ensures in
     let did = c.write_run.ensures.did in
     let writes = run_of {b = buffer_view self} run c.current-owners.ensures.current c.gather-count.ensures.gathered (omega (arith, c.if-count-eq0.false)) few c.first.ensures place did in
-    let settled : AreSettled self.shadow.current c.args.slot c.gather-count.result (frame_in self.frames.cache) (frame_in c.settle.new.self.cache) = rw (← c.current-owners.ensures.current) c.settle.ensures.settled in
+    let settled : AreSettled self.shadow.current c.args.slot c.gather-count.result (frame_in self.frames) (frame_in c.settle.new.frames) = rw (← c.current-owners.ensures.current) c.settle.ensures.settled in
     record {
       saved_area = self.saved_area;
       holds = rw c.settle.ensures.room (IsBuffer-written self.holds writes settled did.size (holds-run run c.first.ensures few place did.only.told.1 c.in_ok-write_run.ensures.written));
@@ -65,7 +65,7 @@ returns-clause-did g c =
     let place = ap (λ (n : ℕ). self.first_slot + n) c.from.ensures in
     let did = c.write_run.ensures.did in
     let writes = run_of {b = buffer_view self} run c.current-owners.ensures.current c.gather-count.ensures.gathered (omega (arith, c.if-count-eq0.false)) few c.first.ensures place did in
-    let settled : AreSettled self.shadow.current c.args.slot c.gather-count.result (frame_in self.frames.cache) (frame_in c.settle.new.self.cache) = rw (← c.current-owners.ensures.current) c.settle.ensures.settled in
+    let settled : AreSettled self.shadow.current c.args.slot c.gather-count.result (frame_in self.frames) (frame_in c.settle.new.frames) = rw (← c.current-owners.ensures.current) c.settle.ensures.settled in
     let waits = run_waits self.holds writes in
     record {
       keeps = rw c.settle.ensures.room (KeepsPages-written self.holds writes settled (omega (arith, g.met.D.Device.limited self.device, c.write_run.ensures.counts)) did.cause.later);

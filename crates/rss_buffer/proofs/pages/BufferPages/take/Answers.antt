@@ -4,6 +4,7 @@ use Rattle.rss_base.specs.StoredPages.{mapped_by}
 use Rattle.rss_shadow.specs.Maps.{Maps, spare}
 use Rattle.rss_base.proofs.Steps.{took, fails_by}
 use Rattle.rss_buffer.specs.Devices.{buffer_view}
+use Rattle.rss_buffer.proofs.Lookups.{put_shown}
 use Rattle.rss_buffer.proofs.Changed.{IsKey-least, IsLeastUnmapped-lacking, Reslots-takes, Fits-changed, changes_page, IsBuffer-changes, passes_on, changed-off, takes_page, keeps_step}
 use Rattle.rss_buffer.proofs.pages.BufferPages.take.Goals as goal
 
@@ -27,8 +28,8 @@ invariant_of-self g c =
     let took = c.take-number.ensures in
     let room : 0 < spare mid.shadow = subst (λ (m : Maps). 0 < spare m) (sym c.make_room.ensures.did.keeps.maps) c.requires.room in
     let re = Reslots-takes mid.shadow c.take-number.new.self c.args.segment c.args.space c.take-number.result mid.holds.laid_out.table room c.requires.low c.requires.high c.requires.space took.least took.gains in
-    let change = changes_page (buffer_view mid) _ mid.holds re c.put.ensures.put c.map.ensures (λ space. space) in
-    record { saved_area = λ area is. absurd (cc); holds = rw c.put.ensures.room (IsBuffer-changes change mid.holds (Fits-changed mid.shadow.shadow took.gains.slot _ refl took.gains.free.shadow)) }
+    let change = changes_page (buffer_view mid) _ mid.holds re (put_shown _ _ c.put.ensures) c.map.ensures (λ space. space) in
+    record { saved_area = λ area is. absurd (cc); holds = rw c.put.ensures.room_is (IsBuffer-changes change mid.holds (Fits-changed mid.shadow.shadow took.gains.slot _ refl took.gains.free.shadow)) }
 
 pub returns-clause-least : goal.returns-clause-least
 returns-clause-least g c =
@@ -42,7 +43,7 @@ returns-clause-taken g c =
     let took = c.take-number.ensures in
     let room : 0 < spare mid.shadow = subst (λ (m : Maps). 0 < spare m) (sym did.keeps.maps) c.requires.room in
     let re = Reslots-takes mid.shadow c.take-number.new.self c.args.segment c.args.space c.take-number.result mid.holds.laid_out.table room c.requires.low c.requires.high c.requires.space took.least took.gains in
-    rw c.put.ensures.room (takes_page did.keeps (changes_page (buffer_view mid) _ mid.holds re c.put.ensures.put c.map.ensures (λ space. space)))
+    rw c.put.ensures.room_is (takes_page did.keeps (changes_page (buffer_view mid) _ mid.holds re (put_shown _ _ c.put.ensures) c.map.ensures (λ space. space)))
 
 pub returns-clause-did : goal.returns-clause-did
 returns-clause-did g c =
@@ -51,5 +52,5 @@ returns-clause-did g c =
     let taken = c.take-number.ensures in
     let room : 0 < spare mid.shadow = subst (λ (m : Maps). 0 < spare m) (sym did.keeps.maps) c.requires.room in
     let re = Reslots-takes mid.shadow c.take-number.new.self c.args.segment c.args.space c.take-number.result mid.holds.laid_out.table room c.requires.low c.requires.high c.requires.space taken.least taken.gains in
-    let change = changes_page (buffer_view mid) _ mid.holds re c.put.ensures.put c.map.ensures (λ space. space) in
-    rw c.put.ensures.room (took _ (passes_on change did.keeps did.few) (changed-off change did.keeps) (takes_page did.keeps change))
+    let change = changes_page (buffer_view mid) _ mid.holds re (put_shown _ _ c.put.ensures) c.map.ensures (λ space. space) in
+    rw c.put.ensures.room_is (took _ (passes_on change did.keeps did.few) (changed-off change did.keeps) (takes_page did.keeps change))

@@ -2,7 +2,7 @@ use Rattle.std.proofs.Common.{rules, ◌≡◌, length, ◌∙◌, ap, refl, ari
 use Rattle.rss_base.specs.Layout.{slots_at}
 use Rattle.rss_base.specs.StoredPages.{StandInSlots}
 use Rattle.rss_shadow.specs.Maps.{Maps}
-use Rattle.rss_buffer.specs.Frames.{frame_in}
+use Rattle.rss_frames.specs.Frames.{frame_in}
 use Rattle.rss_buffer.specs.Slots.{held_by}
 use Rattle.rss_buffer.proofs.Elsewhere.{area_below, buffer_after, changing}
 use Rattle.rss_buffer.proofs.Waits.{none-waits}
@@ -61,7 +61,7 @@ pub returns-clause-saved : goal.returns-clause-saved
 returns-clause-saved g c = λ told pages is.
     let old = c.args.self.now in
     let flush = c.flush_all.ensures.did in
-    let held = held_by old.first_slot old.shadow.current (frame_in old.frames.cache) (g.D.Device.view old.device).disk.contents in
+    let held = held_by old.first_slot old.shadow.current (frame_in old.frames) (g.D.Device.view old.device).disk.contents in
     let mid = flush.loose.told.0 told in
     let stand : StandInSlots (slots_at (length old.shadow.current) old.log_pages) mid.pages old.shadow.current held = flushed_from c.flush_all.new.self.holds flush.keeps c.in_ok-flush_all.ensures.none_changed told mid.pages mid.is in
     let table : c.current.result.now ≡ old.shadow.current = c.current.ensures.current ∙ ap (λ (m : Maps). m.current) flush.keeps.maps in
@@ -69,7 +69,7 @@ returns-clause-saved g c = λ told pages is.
     saves_map old.log_pages c.args.area old.shadow.current held mid.pages _ c.requires.area stand holds pages is
 
 pub returns-clause-none_wait : goal.returns-clause-none_wait
-returns-clause-none_wait g c = none-waits (frame_in c.flush_all.new.self.frames.cache) c.in_ok-flush_all.ensures.none_changed
+returns-clause-none_wait g c = none-waits (frame_in c.flush_all.new.self.frames) c.in_ok-flush_all.ensures.none_changed
 
 pub returns-clause-backing : goal.returns-clause-backing
 returns-clause-backing g c = backing_kept c.flush_all.ensures.did.keeps

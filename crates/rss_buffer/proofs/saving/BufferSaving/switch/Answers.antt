@@ -3,7 +3,7 @@ use Rattle.rss_base.specs.DiskRule.{Pages}
 use Rattle.rss_base.specs.Layout.{device_pages}
 use Rattle.rss_base.specs.StoredPages.{SavesPages, HoldsPages}
 use Rattle.rss_buffer.specs.Slots.{held_by}
-use Rattle.rss_buffer.specs.Frames.{frame_in}
+use Rattle.rss_frames.specs.Frames.{frame_in}
 use Rattle.rss_buffer.specs.Devices.{buffer_view}
 use Rattle.rss_buffer.proofs.Turns.{KeepsPages-rests}
 use Rattle.rss_buffer.proofs.Elsewhere.{switched_below, buffer_after, changing}
@@ -22,7 +22,7 @@ pub returns-then-is_saved-clause-holds : goal.returns-then-is_saved-clause-holds
 returns-then-is_saved-clause-holds g c = λ told is image left.
     let buffer = c.args.self.now in
     let root = c.args.root.now in
-    let held = held_by buffer.first_slot buffer.shadow.current (frame_in buffer.frames.cache) (g.D.Device.view buffer.device).disk.contents in
+    let held = held_by buffer.first_slot buffer.shadow.current (frame_in buffer.frames) (g.D.Device.view buffer.device).disk.contents in
     let switched = c.in_ok-number.ensures.switched told.pages told.is in
     let long = g.met.D.Device.sized buffer.device told.pages told.is in
     let size : length told.pages ≡ device_pages root = omega (arith, long, buffer.holds.laid_out.ends, buffer.holds.laid_out.place, is.slots, is.log_pages) in

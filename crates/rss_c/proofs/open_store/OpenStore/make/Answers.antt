@@ -4,7 +4,8 @@ use Rattle.rss_base.specs.DiskRule.{Told}
 use Rattle.rss_base.specs.declared.fault.OpenFault.{OpenFault}
 use Rattle.rss_device.specs.StepDevice.{view_of}
 use Rattle.rss_device.specs.declared.step_device.StepDevice.{StepDevice}
-use Rattle.rss_model.specs.Store.{no_tables, OpensTo}
+use Rattle.rss_model.specs.Tables.{no_tables}
+use Rattle.rss_stored.specs.Store.{OpensTo}
 use Rattle.rss_store.specs.Formatted.{AreSizes, HoldsFormatted}
 use Rattle.rss_c.specs.Stores.{IsMadeOf, IsOver}
 use Rattle.rss_c.specs.declared.open_store.OpenStore.{OpenStore}

@@ -1,5 +1,5 @@
 use Rattle.std.proofs.Common.{arith}
-use Rattle.rss_device.specs.MemPagesLaws.{number_below}
+use Rattle.rss_device.proofs.Numbered.{number_below}
 use Rattle.rss_device.proofs.mem_pages.MemPagesPages.first_mapped.Goals as goal
 
 pub returns-clause-none : goal.returns-clause-none

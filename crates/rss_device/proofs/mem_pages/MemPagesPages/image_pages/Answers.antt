@@ -1,6 +1,6 @@
 use Rattle.std.proofs.Common.{◌∙◌, ap}
 use Rattle.rss_device.specs.MemPages.{images_in}
-use Rattle.rss_device.specs.MemPagesLaws.{images_counted}
+use Rattle.rss_device.proofs.Numbered.{images_counted}
 use Rattle.rss_device.proofs.mem_pages.MemPagesPages.image_pages.Goals as goal
 
 pub returns : goal.returns

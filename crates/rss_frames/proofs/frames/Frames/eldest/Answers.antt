@@ -1,10 +1,10 @@
 use Rattle.std.proofs.Common.{◌≡◌, false, Some, None, refl, sym, ◌∙◌, arith}
 use Rattle.std.proofs.lemmas.List.{get_or_read}
-use Rattle.rss_chains.specs.Lists.{last_frame}
-use Rattle.rss_chains.specs.Table.{key_at}
-use Rattle.rss_chains.proofs.Table.{frame_within}
+use Rattle.rss_frames.specs.Lists.{last_frame}
+use Rattle.rss_frames.specs.Table.{key_at}
+use Rattle.rss_frames.proofs.Table.{frame_within}
 use Rattle.rss_frames.specs.contracts.frames.Frames.{the_view}
-use Rattle.rss_chains.proofs.Lists.{last_has}
+use Rattle.rss_frames.proofs.Lists.{last_has}
 use Rattle.rss_frames.proofs.Shown.{eldest_is}
 use Rattle.rss_frames.proofs.frames.Frames.eldest.Goals as goal
 

@@ -1,5 +1,5 @@
 use Rattle.std.proofs.Common.{◌≡◌, [], length, None, ◌∙◌, ap, rules}
-use Rattle.rss_chains.specs.Recency.{Recency}
+use Rattle.rss_frames.specs.Recency.{Recency}
 use Rattle.rss_frames.proofs.Changes.{fresh}
 use Rattle.rss_frames.proofs.Shown.{entries_none}
 use Rattle.std.proofs.Common.{replicate}

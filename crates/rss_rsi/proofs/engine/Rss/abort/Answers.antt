@@ -1,5 +1,5 @@
 use Rattle.std.proofs.Common.{refl, arith}
-use Rattle.rss_model.proofs.Endings.{comes_to}
+use Rattle.rss_stored.proofs.Endings.{comes_to}
 use Rattle.rss_model.proofs.Tests.{refuses_at}
 use Rattle.rss_lock.specs.Table.{told}
 use Rattle.rss_scan.specs.Scans.{told as scans_told}

@@ -1,7 +1,7 @@
 use Rattle.rss_store.specs.Stores.{StoreView}
 use Rattle.rss_session.proofs.StaysOpen.{same_listed}
 use Rattle.std.proofs.Common.{refl, ap, arith}
-use Rattle.rss_model.proofs.Endings.{comes_to}
+use Rattle.rss_stored.proofs.Endings.{comes_to}
 use Rattle.rss_store.specs.Parts.{view as store_view}
 use Rattle.rss_rsi.proofs.TransactionSteps.{begin_leads}
 use Rattle.rss_rsi.proofs.Ways.{asked, answers, goes_nowhere, lacks_memory, refused_test, ready_stay}

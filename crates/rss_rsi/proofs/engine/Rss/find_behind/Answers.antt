@@ -3,7 +3,7 @@ use Rattle.std.specs.Prelude.{Ok}
 use Rattle.rss_base.specs.TupleTypes.{kinds}
 use Rattle.rss_model.proofs.Lengths.{row_line}
 use Rattle.rss_rsi.specs.Parts.{parts_of}
-use Rattle.rss_rsi.proofs.Looks.{ready_looked, body_as, costly_damaged, costly_fails, lacks_costly, passed_on, still_at}
+use Rattle.rss_rsi.proofs.Looks.{ready_looked, body_as, costly_damaged, costly_fails, lacks_costly, passed_on, still_at, few_fields}
 use Rattle.rss_rsi.proofs.Scans.{none_unread, none_behind, row_behind}
 use Rattle.rss_rsi.proofs.engine.Rss.find_behind.Goals as goal
 
@@ -36,7 +36,7 @@ returns-clause-finds g c =
     row_behind (parts_of c.args.self.now) c.args.number c.relation.ensures.is c.args.after c.in_ok-found.found _ look.finds c.in-Some.tid c.in-Some.is c.in-Ok.read
     (body_as look.looks.catalog c.relation.ensures.is c.as_slice.ensures.bytes c.in-Ok.ensures.exact)
     c.in_ok-tuple.tuple c.in_ok-tuple.ensures.some
-    (row_line c.in-Some.tid (kinds c.relation.result.now.fields) c.in_ok-tuple.tuple (omega arith) (omega arith) spelled.spelled.fit c.relation.ensures.safe.narrow spelled.spelled.storable)
+    (row_line c.in-Some.tid (kinds c.relation.result.now.fields) c.in_ok-tuple.tuple (omega arith) (omega arith) spelled.spelled.fit c.relation.ensures.safe.narrow (few_fields c.relation.ensures.safe) spelled.spelled.storable)
 
 pub invariant_of-self-2 : goal.invariant_of-self-2
 invariant_of-self-2 g c = record { ready = λ up. ready_looked (parts_of c.args.self.now) _ {found = c.in_ok-found.found} (c.args.self.now.ready c.requires.up) c.in_ok-found.ensures.looks (record { locks = refl; scans = refl }) }

@@ -11,7 +11,7 @@ use Rattle.rss_session.proofs.Starts.{image_entry}
 use Rattle.rss_rsi.specs.Parts.{parts_of, session_of}
 use Rattle.rss_rsi.specs.Views.{AreLong}
 use Rattle.rss_rsi.proofs.ImageScans.{costs_levels, goes_at, long_last, named_as, never_lost, never_unread, none_found, row_found}
-use Rattle.rss_rsi.proofs.Looks.{body_as, costly_damaged, costly_fails, lacks_costly, passed_on, ready_looked, still_at}
+use Rattle.rss_rsi.proofs.Looks.{body_as, costly_damaged, costly_fails, lacks_costly, passed_on, ready_looked, still_at, few_fields}
 use Rattle.rss_rsi.proofs.Scans.{cursor_long, has_scan}
 use Rattle.rss_rsi.proofs.Ways.{rss_parts}
 use Rattle.rss_rsi.proofs.engine.Rss.find_entry.Goals as goal
@@ -169,7 +169,7 @@ returns-clause-finds g c =
     (body_as look.looks.catalog c.relation.ensures.is c.as_slice.ensures.bytes c.in-Ok.ensures.exact)
     long.0 at.0 at.1 (rw c.in-Some-found.is at c.in_ok-found.ensures.wide)
     c.in_ok-tuple.tuple c.in_ok-tuple.ensures.some
-    (row_line c.in-Some-found.tid (kinds c.relation.result.now.fields) c.in_ok-tuple.tuple (omega (arith, c.is_sized.ensures.page)) (omega (arith, c.is_sized.ensures.slot)) spelled.spelled.fit c.relation.ensures.safe.narrow spelled.spelled.storable)
+    (row_line c.in-Some-found.tid (kinds c.relation.result.now.fields) c.in_ok-tuple.tuple (omega (arith, c.is_sized.ensures.page)) (omega (arith, c.is_sized.ensures.slot)) spelled.spelled.fit c.relation.ensures.safe.narrow (few_fields c.relation.ensures.safe) spelled.spelled.storable)
 
 pub returns-clause-costs : goal.returns-clause-costs
 returns-clause-costs g c =

@@ -1,5 +1,5 @@
 use Rattle.std.proofs.Common.{arith}
-use Rattle.rss_model.proofs.StorePages.{pages_split}
+use Rattle.rss_stored.proofs.StorePages.{pages_split}
 use Rattle.rss_rsi.proofs.engine.Rss.heap.Goals as goal
 
 pub returns : goal.returns

@@ -4,7 +4,7 @@ use Rattle.rss_base.specs.TupleTypes.{kinds}
 use Rattle.rss_model.proofs.Lengths.{tuple_line}
 use Rattle.rss_session.proofs.Behind.{looks_as}
 use Rattle.rss_rsi.specs.Parts.{parts_of}
-use Rattle.rss_rsi.proofs.Looks.{look_fails, lacks_looked, reads_none, none_past, none_there, some_there, none_spelled, looks_nothing, ready_looked, body_as, body_fits, still_at}
+use Rattle.rss_rsi.proofs.Looks.{look_fails, lacks_looked, reads_none, none_past, none_there, some_there, none_spelled, looks_nothing, ready_looked, body_as, body_fits, still_at, few_fields}
 use Rattle.rss_rsi.proofs.engine.Rss.look_up.Goals as goal
 
 pub returns-then-from-ge-PAGE_ENTRIES-clause-looks : goal.returns-then-from-ge-PAGE_ENTRIES-clause-looks
@@ -57,7 +57,7 @@ returns-clause-finds g c = λ relation known.
           c.if-not-there.false told state is_in c.in_ok-tuple.tuple c.in_ok-tuple.ensures.some;
       fit = body_fits c.args.self.now.session.store.catalog.listing c.relation.ensures.is spelled;
       storable = spelled.spelled.storable;
-      short = tuple_line (kinds c.relation.result.now.fields) c.in_ok-tuple.tuple spelled.spelled.fit c.relation.ensures.safe.narrow spelled.spelled.storable;
+      short = tuple_line (kinds c.relation.result.now.fields) c.in_ok-tuple.tuple spelled.spelled.fit c.relation.ensures.safe.narrow (few_fields c.relation.ensures.safe) spelled.spelled.storable;
       slot = omega (arith, c.if-from-ge-PAGE_ENTRIES.false, c.from.ensures);
     }
 

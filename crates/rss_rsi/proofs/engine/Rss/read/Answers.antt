@@ -2,7 +2,7 @@ use Rattle.std.proofs.Common.{arith, refl}
 use Rattle.rss_base.specs.TupleTypes.{kinds}
 use Rattle.rss_model.proofs.Lengths.{row_line}
 use Rattle.rss_rsi.specs.Parts.{parts_of}
-use Rattle.rss_rsi.proofs.Looks.{body_as, ready_looked, still_at}
+use Rattle.rss_rsi.proofs.Looks.{body_as, ready_looked, still_at, few_fields}
 use Rattle.rss_rsi.proofs.Members.{passed_read, read_fails, read_gives, read_lost, read_none}
 use Rattle.rss_rsi.proofs.engine.Rss.read.Goals as goal
 
@@ -34,4 +34,4 @@ returns-clause-ends g c =
     read_gives c.args.number c.args.tid c.relation.ensures.is look.looks look.finds c.if-not-branch.false c.in-Ok.read
     (body_as look.looks.catalog c.relation.ensures.is c.as_slice.ensures.bytes c.in-Ok.ensures.exact)
     refl c.in_ok-tuple.tuple c.in_ok-tuple.ensures.some
-    (row_line c.args.tid (kinds c.relation.result.now.fields) c.in_ok-tuple.tuple (omega arith) (omega arith) spelled.spelled.fit c.relation.ensures.safe.narrow spelled.spelled.storable)
+    (row_line c.args.tid (kinds c.relation.result.now.fields) c.in_ok-tuple.tuple (omega arith) (omega arith) spelled.spelled.fit c.relation.ensures.safe.narrow (few_fields c.relation.ensures.safe) spelled.spelled.storable)

@@ -1,7 +1,7 @@
 use Rattle.rss_store.specs.Stores.{StoreView}
 use Rattle.rss_session.proofs.StaysOpen.{same_listed}
 use Rattle.std.proofs.Common.{refl, ap, arith}
-use Rattle.rss_model.proofs.Endings.{comes_to}
+use Rattle.rss_stored.proofs.Endings.{comes_to}
 use Rattle.rss_model.proofs.Tests.{refuses_at}
 use Rattle.rss_store.specs.Parts.{view as store_view}
 use Rattle.rss_rsi.proofs.TransactionSteps.{number_line, save_leads}

@@ -1,4 +1,4 @@
-use Rattle.rss_model.proofs.Endings.{never_down}
+use Rattle.rss_stored.proofs.Endings.{never_down}
 use Rattle.rss_rsi.proofs.engine.RssEngine.call.Goals as goal
 
 pub returns-in-Begin-clause-done : goal.returns-in-Begin-clause-done

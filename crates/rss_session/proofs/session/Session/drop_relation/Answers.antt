@@ -6,7 +6,7 @@ use Rattle.rss_base.specs.declared.name.Name.{Name}
 use Rattle.rss_base.specs.declared.call.Call.TheVariants.{DropRelation}
 use Rattle.rss_catalog.specs.Catalogs.{HasImageOf, HasLinkOf}
 use Rattle.rss_model.specs.Defining.{if_any_open}
-use Rattle.rss_model.proofs.Relisted.{number_within_list}
+use Rattle.rss_stored.proofs.Relisted.{number_within_list}
 use Rattle.rss_model.proofs.Tests.{refuses_at}
 use Rattle.rss_session.specs.Definitions.{Relists}
 use Rattle.rss_session.specs.Definitions.Relists.{drop_relation}

@@ -3,7 +3,7 @@ use Rattle.std.specs.Prelude.{is_some, take, All}
 use Rattle.std.proofs.lemmas.Option.{same_Some}
 use Rattle.rss_base.specs.TupleTypes.{key_width, most_key_width}
 use Rattle.rss_base.specs.declared.relation.RelationEntry.{RelationEntry}
-use Rattle.rss_model.proofs.ImageFields.{chosen_kinds}
+use Rattle.rss_stored.proofs.ImageFields.{chosen_kinds}
 use Rattle.rss_value.specs.Numbers.{IsNumberOf}
 use Rattle.rss_entries.specs.Rooms.{width_of}
 use Rattle.rss_session.specs.Parts.{view}

@@ -1,16 +1,20 @@
-use Rattle.std.proofs.Common.{◌≤◌, ◌∙◌, List, ap, subst, sym, rules, refl, arith}
-use Rattle.std.specs.Prelude.{is_some, option_map}
+use Rattle.std.proofs.Common.{◌≡◌, ◌≤◌, true, ◌∙◌, List, ap, subst, sym, rules, refl, arith}
+use Rattle.std.specs.Prelude.{Some, is_some, option_map}
 use Rattle.std.proofs.lemmas.Bool.{true≢false}
 use Rattle.std.proofs.lemmas.List.{length-map}
-use Rattle.rss_base.specs.TupleTypes.{field_names, kinds, width, most_width, are_kinds}
+use Rattle.rss_base.specs.Listings.{with_relation}
+use Rattle.rss_base.specs.TupleTypes.{AreFields, field_names, kinds, width, most_width, are_kinds}
 use Rattle.rss_base.specs.declared.field.FieldDef.{FieldDef}
 use Rattle.rss_base.specs.declared.relation.RelationEntry.{RelationEntry}
 use Rattle.rss_base.specs.declared.call.Call.TheVariants.{MakeRelation}
+use Rattle.rss_base.specs.declared.refusal.Kind.TheVariants.{Relation as RelationKind}
+use Rattle.rss_catalog.specs.Catalogs.{Lists, page_of}
 use Rattle.rss_model.specs.Defining.{has_twice, if_any_open}
 use Rattle.rss_model.specs.Steps.{first_of}
-use Rattle.rss_model.proofs.Named.{apart_once}
+use Rattle.rss_model.proofs.Redefining.{originals_fit}
 use Rattle.rss_model.proofs.Tests.{refuses_at}
 use Rattle.rss_session.specs.FieldTests.{fields_tests}
+use Rattle.rss_session.specs.Definitions.{entry_of}
 use Rattle.rss_session.specs.Definitions.Relists.{relation}
 use Rattle.rss_access.proofs.Recounting.{page_same}
 use Rattle.rss_session.proofs.Defined.{found, not_found, refused, refused_for, within_lacks, relation_known, fields_taken, relation_many, relation_by_fields, relation_may, redefines, relation_page, imaged_still}
@@ -60,20 +64,19 @@ returns-in_err-test_fields g c =
     let once = ap (λ (f : List FieldDef). has_twice (field_names f)) (sym c.as_slice.ensures) ∙ sym c.has_twice.ensures ∙ c.if-has_twice.false in
     refused_for g.S.Pages.view c.args.self.now (MakeRelation c.args.name.now c.args.segment.now c.args.fields) c.from_residual-in_err-test_fields.result c.from_residual-in_err-test_fields.ensures.1 (λ told state shows.
     relation_by_fields shows c.in_ok-test_rest.ensures.closed c.args.name.now c.args.segment.now c.args.fields c.in-Some.segment c.in-Some.ensures.some fresh once (λ all. true≢false (sym (c.is_full.ensures.1 all) ∙ c.if-is_full.false))
-    ∙ ap (λ (f : List FieldDef). first_of (fields_tests f)) (sym c.as_slice-2.ensures) ∙ c.in_err-test_fields.ensures.refused) c.in_err-test_fields.ensures.short
+    ∙ ap (λ (f : List FieldDef). first_of (fields_tests f)) (sym (c.as_slice-2.ensures ∙ c.make_original.ensures)) ∙ c.in_err-test_fields.ensures.refused) c.in_err-test_fields.ensures.short
 
 pub add_relation-requires-clause-entry : goal.add_relation-requires-clause-entry
 add_relation-requires-clause-entry g c =
     let once = ap (λ (f : List FieldDef). has_twice (field_names f)) (sym c.as_slice.ensures) ∙ sym c.has_twice.ensures ∙ c.if-has_twice.false in
+    let are = c.as_slice-2.ensures ∙ c.make_original.ensures in
     record {
       name = c.requires.name;
       segment = ap is_some c.in-Some.ensures.some;
-      fields = record {
-        formed = ap (λ (f : List FieldDef). are_kinds (kinds f)) (sym c.as_slice-2.ensures) ∙ c.in_ok-test_fields.ensures.formed;
-        narrow = subst (λ (f : List FieldDef). width (kinds f) ≤ most_width) c.as_slice-2.ensures c.in_ok-test_fields.ensures.narrow;
-        names = c.requires.fields;
-        apart = apart_once (field_names c.args.fields) once;
-      };
+      fields = subst AreFields (sym c.make_original.ensures) (originals_fit c.args.fields
+          (subst (λ (f : List FieldDef). are_kinds (kinds f) ≡ true) are c.in_ok-test_fields.ensures.formed)
+          (subst (λ (f : List FieldDef). width (kinds f) ≤ most_width) are c.in_ok-test_fields.ensures.narrow)
+          c.requires.fields once);
       live = omega arith;
     }
 
@@ -82,12 +85,14 @@ returns g c =
     let listing = c.args.self.now.store.catalog.listing in
     let fresh = not_found c.find-2.result c.find-2.ensures.none (sym c.is_some.ensures ∙ c.if-is_some.false) in
     let once = ap (λ (f : List FieldDef). has_twice (field_names f)) (sym c.as_slice.ensures) ∙ sym c.has_twice.ensures ∙ c.if-has_twice.false in
-    let formed = ap (λ (f : List FieldDef). are_kinds (kinds f)) (sym c.as_slice-2.ensures) ∙ c.in_ok-test_fields.ensures.formed in
-    let narrow = subst (λ (f : List FieldDef). width (kinds f) ≤ most_width) c.as_slice-2.ensures c.in_ok-test_fields.ensures.narrow in
+    let are = c.as_slice-2.ensures ∙ c.make_original.ensures in
+    let formed = subst (λ (f : List FieldDef). are_kinds (kinds f) ≡ true) are c.in_ok-test_fields.ensures.formed in
+    let narrow = subst (λ (f : List FieldDef). width (kinds f) ≤ most_width) are c.in_ok-test_fields.ensures.narrow in
     let least = c.add_relation.ensures.least in
+    let lists = subst (λ (f : List FieldDef). Lists (with_relation listing c.add_relation.result (Some (entry_of c.args.name.now c.in-Some.segment f))) (page_of RelationKind c.add_relation.result) c.args.self.now.store.catalog c.add_relation.new.self) c.make_original.ensures c.add_relation.ensures.lists in
     let places = length-map listing.relations (option_map (λ (r : RelationEntry). r.name)) in record {
       tests = λ told state shows. relation_may shows c.in_ok-test_rest.ensures.closed c.args.name.now c.args.segment.now c.args.fields c.in-Some.segment c.in-Some.ensures.some fresh once (λ all. true≢false (sym (c.is_full.ensures.1 all) ∙ c.if-is_full.false)) formed narrow;
-      redefines = redefines _ (λ fits. relation_page c.add_relation.result (omega (arith, least.high, places, fits.relation_places))) (relation c.args.name.now c.args.segment.now c.args.fields c.in-Some.segment c.add_relation.result c.in-Some.ensures.some fresh least) c.add_relation.ensures.lists (λ k low. page_same listing c.add_relation.result _ k) c.add_relation.ensures.fits (imaged_still listing c.add_relation.result _ least.low c.add_relation.ensures.none) c.in_ok-test_rest.ensures.closed
+      redefines = redefines _ (λ fits. relation_page c.add_relation.result (omega (arith, least.high, places, fits.relation_places))) (relation c.args.name.now c.args.segment.now c.args.fields c.in-Some.segment c.add_relation.result c.in-Some.ensures.some fresh least) lists (λ k low. page_same listing c.add_relation.result _ k) c.add_relation.ensures.fits (imaged_still listing c.add_relation.result _ least.low c.add_relation.ensures.none) c.in_ok-test_rest.ensures.closed
           (record { tuples = refl; log = refl; root = refl; number = refl; opened = refl; heap = refl; surviving = refl; entries = refl; survived = refl });
       same = tt;
     }

@@ -8,7 +8,7 @@ use Rattle.rss_base.specs.declared.relation.RelationEntry.{RelationEntry}
 use Rattle.rss_base.specs.declared.value.Value.{Value}
 use Rattle.rss_access.proofs.ImageKeys.{narrow_keys, width_is}
 use Rattle.rss_entries.specs.Rooms.{width_of}
-use Rattle.rss_model.specs.Store.{IsListedImage}
+use Rattle.rss_stored.specs.Store.{IsListedImage}
 use Rattle.rss_session.specs.Imaging.{IsStartOf}
 use Rattle.rss_session.proofs.Starts.{one_listed}
 use Rattle.rss_session.proofs.session.Session.start_key.Goals as goal

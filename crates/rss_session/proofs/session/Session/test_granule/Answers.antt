@@ -2,7 +2,7 @@ use Rattle.std.proofs.Common.{◌∙◌, ap}
 use Rattle.rss_base.specs.declared.refusal.Kind.TheVariants.{Segment as SegmentKind, Relation as RelationKind}
 use Rattle.rss_base.specs.declared.refusal.Refusal.TheVariants.{NoSuch}
 use Rattle.rss_model.specs.Refusals.{unless_granule}
-use Rattle.rss_model.proofs.ByNumber.{segment_named, relation_named}
+use Rattle.rss_stored.proofs.ByNumber.{segment_named, relation_named}
 use Rattle.rss_model.proofs.Tests.{passes_unless}
 use Rattle.rss_session.proofs.session.Session.test_granule.Goals as goal
 use Rattle.rss_session.proofs.session.Session.test_granule.Goals.{in-Segment, in-Relation}

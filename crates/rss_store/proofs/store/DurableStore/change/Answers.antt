@@ -1,6 +1,6 @@
 use Rattle.std.proofs.Common.{refl, arith}
 use Rattle.rss_base.specs.declared.log_record.LogRecord.TheVariants as records
-use Rattle.rss_model.proofs.LogSteps.{change_ties}
+use Rattle.rss_stored.proofs.LogSteps.{change_ties}
 use Rattle.rss_store.specs.Stores.{StoreView}
 use Rattle.rss_store.specs.Parts.{view}
 use Rattle.rss_store.proofs.Growing.{Appends, behind_grown}

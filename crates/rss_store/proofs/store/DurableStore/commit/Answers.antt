@@ -4,6 +4,7 @@ use Rattle.rss_base.specs.LogRecords.{IsSpellable}
 use Rattle.rss_base.specs.Notes.{Noted}
 use Rattle.rss_base.specs.Paged.{Held}
 use Rattle.rss_base.specs.declared.log_record.LogRecord.TheVariants as records
+use Rattle.rss_base.specs.declared.root.Root.{Root}
 use Rattle.rss_catalog.specs.Catalogs.{CatalogView}
 use Rattle.rss_store.proofs.Growing.{Appends}
 use Rattle.rss_store.proofs.Pieces.{slots_still, mapped_still}
@@ -61,3 +62,6 @@ returns-clause-shows g c =
     let next = ended_next appends spellable shows may c.requires.ready _ is told stays reads in
     ended_shows appends spellable shows may c.requires.ready _ is told stays reads selected select.log select.catalog (step.held told) slots mapped (g.met.S.Pages.are_counted pages) (g.met.S.Pages.are_counted pages_now)
     (fixes_now saveable_now (slots ∙ c.requires.ready.size) (step.log_pages ∙ c.requires.ready.log_pages) (selected.shadow ∙ sym shows.disk.owners_are) (step.told.0 told) (g.met.S.Pages.reads_as_image pages_now) (leaves told _ _ _ next))) select.selected select.leaves
+
+pub returns-clause-version : goal.returns-clause-version
+returns-clause-version g c = on_ok_weaker c.select.result (λ selected. ap (λ (r : Root). r.version) selected.root) c.select.ensures.selected

@@ -1,6 +1,6 @@
 use Rattle.std.proofs.Common.{arith}
 use Rattle.rss_base.specs.declared.log_record.LogRecord.TheVariants as records
-use Rattle.rss_model.proofs.LogSteps.{restore_ties}
+use Rattle.rss_stored.proofs.LogSteps.{restore_ties}
 use Rattle.rss_store.specs.Parts.{view}
 use Rattle.rss_store.proofs.Growing.{Appends, behind_grown}
 use Rattle.rss_store.proofs.Cutting.{ready_with, cuts_at}

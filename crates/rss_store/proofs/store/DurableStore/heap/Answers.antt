@@ -8,7 +8,7 @@ use Rattle.rss_base.specs.declared.key.Space.TheVariants.{Image}
 use Rattle.rss_shadow.specs.Maps.{Maps}
 use Rattle.rss_buffer.specs.Saving.{SavingView, AreSaveable}
 use Rattle.rss_catalog.specs.Catalogs.{HasSystemPages}
-use Rattle.rss_model.proofs.StorePages.{pages_split}
+use Rattle.rss_stored.proofs.StorePages.{pages_split}
 use Rattle.rss_access.specs.Written.{heap_now}
 use Rattle.rss_store.proofs.Read.{current_counted}
 use Rattle.rss_store.proofs.store.DurableStore.heap.Goals as goal

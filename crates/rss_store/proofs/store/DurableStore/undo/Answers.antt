@@ -1,6 +1,6 @@
 use Rattle.std.proofs.Common.{refl, subst}
 use Rattle.rss_base.specs.declared.change.Change as told
-use Rattle.rss_model.proofs.LogTurning.{changes_turn_back}
+use Rattle.rss_stored.proofs.LogTurning.{changes_turn_back}
 use Rattle.rss_access.specs.Changes.{HasRoomFor}
 use Rattle.rss_restart.proofs.Moving.{told_once}
 use Rattle.rss_store.specs.Changing.{access}

@@ -1,4 +1,0 @@
-pub mod Lists
-pub mod Ring
-pub mod Chain
-pub mod Table

@@ -1,5 +1,0 @@
-use Rattle.rss_model.proofs.LogPlaced.{stores_fit}
-use Rattle.rss_model.proofs.laws.tables_fit.Goals as goal
-
-pub returns : goal.returns
-returns g = stores_fit
