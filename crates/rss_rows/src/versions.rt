@@ -168,8 +168,9 @@ fn store(alloc: Global) -> Result<MemDevice, Fail> {
     let mut pages = filled_pages(alloc, PAGES, 0)?;
     for (page, place, bytes) in &STORE {
         let page = pages.get_mut(*page).ok_or("a page that isn't there")?;
-        let into = page
-            .get_mut(*place..*place + bytes.len())
+        let rest = page.get_mut(*place..).ok_or("a place that isn't there")?;
+        let into = rest
+            .get_mut(..bytes.len())
             .ok_or("bytes that aren't there")?;
         into.copy_from_slice(bytes);
     }
