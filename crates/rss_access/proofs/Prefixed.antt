@@ -26,7 +26,7 @@ use Rattle.rss_stored.specs.Store.{Defines, SpellsTables, fields_at, prefix_of, 
 use Rattle.rss_stored.proofs.Blocks.{prefix_long}
 use Rattle.rss_model.proofs.Counts.{one_if}
 use Rattle.rss_stored.proofs.Prefixes.{prefix_blank, absent_blank}
-use Rattle.rss_stored.proofs.Spelled.{front_parts}
+use Rattle.rss_base.proofs.Fronts.{front_parts}
 use Rattle.rss_model.proofs.Standing.{or_none}
 use Rattle.rss_members.specs.Members.{SpellsMembers, blank_block, blank_listed, blank_prefix}
 use Rattle.rss_members.proofs.Prefixed.{size_most}

@@ -11,3 +11,5 @@ pub mod Looking
 pub mod Copies
 pub mod Equal
 pub mod Originals
+pub mod Fronts
+pub mod TupleBytes

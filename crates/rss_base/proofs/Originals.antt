@@ -1,9 +1,7 @@
 -- Fields that are made original ones, one behind the other.
-use Rattle.std.proofs.Common.{◌≡◌, ℕ, suc, ◌<◌, ◌≤◌, false, List, [], ◌∷◌, length, map, get_or, refl, arith}
+use Rattle.std.proofs.Common.{◌≡◌, ℕ, suc, ◌<◌, ◌≤◌, List, [], ◌∷◌, length, map, get_or, refl, arith}
 use Rattle.rss_base.specs.declared.field.FieldDef.{FieldDef}
-
-abbrev pub as_original : FieldDef → FieldDef
-as_original field = record field { added = false }
+use Rattle.rss_base.specs.TupleTypes.{as_original}
 
 -- those below this place are, and the others are as they were
 pub record AreOriginal (old new : List FieldDef) (end : ℕ) : Type 0 where

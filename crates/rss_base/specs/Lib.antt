@@ -21,4 +21,5 @@ pub mod Listings
 pub mod Nodes
 pub mod Trees
 pub mod Prefixes
+pub mod Fronts
 pub mod Looking

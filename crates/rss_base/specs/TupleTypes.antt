@@ -27,6 +27,10 @@ kinds fields = map form_of fields
 abbrev pub is_added : FieldDef → Bool
 is_added field = field.added
 
+-- the field as one that was not added
+abbrev pub as_original : FieldDef → FieldDef
+as_original field = record field { added = false }
+
 -- ---- which tuples fit
 
 -- a byte of characters from U+0020 on, without U+007F

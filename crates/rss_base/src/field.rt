@@ -1,7 +1,6 @@
 // Fields of relations.
-ghost use Rattle.std.specs.Prelude.{◌≡◌, false, [], ◌∷◌, ◌++◌, map, IfOk, OnOk, OnErr};
-ghost use Rattle.rss_base.specs.TupleTypes.{form_of};
-ghost use Rattle.rss_base.specs.declared.field.FieldDef.{FieldDef as Field};
+ghost use Rattle.std.specs.Prelude.{◌≡◌, [], ◌∷◌, ◌++◌, map, IfOk, OnOk, OnErr};
+ghost use Rattle.rss_base.specs.TupleTypes.{form_of, as_original};
 
 use crate::{FieldForm, FieldKind, Name};
 use std::alloc::{AllocError, Global};
@@ -77,7 +76,7 @@ impl Fields {
 
     /// Makes original fields of them.
     pub fn make_original(&mut self)
-        ensures { self.new ≡ map (λ (field : Field). record field { added = false }) self.old }
+        ensures { self.new ≡ map as_original self.old }
     {
         for field in self.fields.iter_mut() {
             field.added = false;

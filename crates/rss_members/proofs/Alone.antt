@@ -29,7 +29,7 @@ use Rattle.rss_model.proofs.Mixing.{In}
 use Rattle.rss_stored.proofs.Places.{place_parts}
 use Rattle.rss_model.proofs.Refitting.{Unlinked, links_put}
 use Rattle.rss_model.proofs.SeenAlike.{chain_same}
-use Rattle.rss_stored.proofs.Spelled.{front_parts}
+use Rattle.rss_base.proofs.Fronts.{front_parts}
 use Rattle.rss_model.proofs.Standing.{tid_itself, tid_apart, or_none, stands_of}
 use Rattle.rss_model.proofs.Viewing.{stands}
 use Rattle.rss_members.specs.Members.{SpellsMembers, IsAlone, blank_block, blank_listed, blank_prefix}

@@ -5,7 +5,7 @@ use Rattle.std.specs.Ordering.{eq_by_cmp}
 use Rattle.std.specs.FinMap as map
 use Rattle.rss_base.specs.Sizes.{segments, relations_most, images_most, links_most, roles_most}
 use Rattle.rss_base.specs.Names.{IsName}
-use Rattle.rss_base.specs.TupleTypes.{kinds, width, most_width, key_width, most_key_width, are_kinds, field_names}
+use Rattle.rss_base.specs.TupleTypes.{as_original, kinds, width, most_width, key_width, most_key_width, are_kinds, field_names}
 use Rattle.rss_base.specs.declared.name.Name.{Name}
 use Rattle.rss_base.specs.declared.field.FieldDef.{FieldDef}
 use Rattle.rss_base.specs.declared.item.Item.{Item}
@@ -32,9 +32,6 @@ abbrev pub with_definitions : Definitions → Tables → Tables
 with_definitions definitions tables = record tables { definitions = definitions }
 
 -- the fields of a relation as it is made: none was added to it
-abbrev pub as_original : FieldDef → FieldDef
-as_original field = record field { added = false }
-
 abbrev pub originals : List FieldDef → List FieldDef
 originals fields = list_map as_original fields
 

@@ -15,7 +15,7 @@ use Rattle.rss_stored.specs.Store.{place_of, block_of, listed_block, prefix_of}
 use Rattle.rss_model.proofs.LogLists.{by_test, false_true}
 use Rattle.rss_model.proofs.Mixing.{In}
 use Rattle.rss_stored.proofs.Places.{length-place_bytes, tid_parts, place_parts}
-use Rattle.rss_stored.proofs.Spelled.{front_parts}
+use Rattle.rss_base.proofs.Fronts.{front_parts}
 use Rattle.rss_model.proofs.Standing.{stands_of, tid_itself, tid_apart}
 
 -- ---- lengths

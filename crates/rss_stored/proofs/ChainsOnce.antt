@@ -30,7 +30,8 @@ use Rattle.rss_model.proofs.Codes.{item_total, item_apart}
 use Rattle.rss_stored.proofs.Listed.{at_place, fields_defined, fields_at_is}
 use Rattle.rss_model.proofs.LogLists.{by_test, false_true, some_of}
 use Rattle.rss_model.proofs.Mixing.{In}
-use Rattle.rss_stored.proofs.Spelled.{defines_once, front_parts, listed_link, same_options, same_values, tuple_bytes_same}
+use Rattle.rss_base.proofs.Fronts.{front_parts}
+use Rattle.rss_stored.proofs.Spelled.{defines_once, listed_link, same_options, same_values, tuple_bytes_same}
 use Rattle.rss_model.proofs.Standing.{stands_of}
 
 -- ---- tuples

@@ -20,7 +20,7 @@ use Rattle.rss_model.specs.Images.{image_list}
 use Rattle.rss_model.specs.Meter.{bound_of}
 use Rattle.rss_stored.specs.Store.{SpellsImage, image_definition, pair_spelled}
 use Rattle.rss_stored.proofs.ListedOnce.{spelled_same}
-use Rattle.rss_stored.proofs.Spelled.{front_parts}
+use Rattle.rss_base.proofs.Fronts.{front_parts}
 
 -- ---- a page spells the entries of one node
 

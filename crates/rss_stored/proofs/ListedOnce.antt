@@ -23,7 +23,7 @@ use Rattle.rss_base.specs.declared.link.LinkEntry.{LinkEntry}
 use Rattle.rss_base.specs.LogRecords.{place_bytes}
 use Rattle.rss_stored.proofs.Listed.{at_place}
 use Rattle.rss_stored.proofs.Places.{length-place_bytes, place_parts}
-use Rattle.rss_stored.proofs.Spelled.{front_parts}
+use Rattle.rss_base.proofs.Fronts.{front_parts}
 use Rattle.rss_model.proofs.Codes.{same_name}
 
 -- ---- lists whose items are spelled by as many bytes each

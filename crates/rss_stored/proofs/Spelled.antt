@@ -23,6 +23,7 @@ use Rattle.rss_base.specs.declared.image.ImageEntry.{ImageEntry}
 use Rattle.rss_base.specs.declared.link.LinkEntry.{LinkEntry}
 use Rattle.rss_base.specs.declared.refusal.Kind.TheVariants.{Relation as RelationKind, Image as ImageKind, Link as LinkKind}
 use Rattle.rss_base.proofs.Numbers.{int_bytes_same}
+use Rattle.rss_base.proofs.Fronts.{front_parts}
 use Rattle.rss_tuple.specs.Directory.{bodies_of}
 use Rattle.rss_model.specs.Items.{Content, Values}
 use Rattle.rss_model.specs.Tables.{RelationDef, ImageDef, LinkDef, Definitions, Tables, content, fields_of}
@@ -34,17 +35,6 @@ use Rattle.rss_stored.proofs.Listed.{at_place, listed}
 use Rattle.rss_model.proofs.LogLists.{some_of}
 
 -- ---- the bytes of tuples
-
--- the fronts of one length, and what stands behind them
-pub front_parts : (x y u v : List ℕ) → length x ≡ length y → x ++ u ≡ y ++ v → (x ≡ y) × (u ≡ v)
-front_parts [] [] u v same whole = (refl, whole)
-front_parts [] (b ∷ y) u v same whole = absurd (omega (arith, same))
-front_parts (a ∷ x) [] u v same whole = absurd (omega (arith, same))
-front_parts (a ∷ x) (b ∷ y) u v same whole =
-    let first : a ≡ b = cc in
-    let later : x ++ u ≡ y ++ v = cc in
-    let rest = front_parts x y u v (omega (arith, same)) later in
-    (λ i. first i ∷ rest.0 i, rest.1)
 
 -- of two values of one kind, with what follows them
 value_parts : (kind : FieldKind) (a b : Value) (u v : List ℕ) → fits_kind kind a ≡ true → fits_kind kind b ≡ true → IsStorable a → IsStorable b → value_bytes a ++ u ≡ value_bytes b ++ v → (a ≡ b) × (u ≡ v)

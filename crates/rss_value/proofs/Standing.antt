@@ -1,5 +1,5 @@
 -- What stands of a tuple's values: those up to the last one that is defined.
-use Rattle.std.proofs.Common.{◌≡◌, ◌≢◌, ℕ, ◌+◌, ◌-◌, ◌<◌, ◌≤◌, Bool, true, false, ◌&&◌, cond, List, [], ◌∷◌, ◌++◌, length, drop, get_or, nat_le, leb-true, length-append, length-drop, All, refl, sym, ap, ◌∙◌, arith}
+use Rattle.std.proofs.Common.{◌≡◌, ◌≢◌, ℕ, ◌+◌, ◌-◌, ◌<◌, ◌≤◌, Bool, true, false, cond, List, [], ◌∷◌, ◌++◌, length, drop, get_or, nat_le, leb-true, length-append, length-drop, All, refl, sym, ap, ◌∙◌, arith}
 use Rattle.std.proofs.lemmas.List.{get_or-drop}
 use Rattle.std.proofs.lemmas.List.Folds.{list_all_at}
 use Rattle.std.proofs.lemmas.List.Elements.{All-nil, All-cons}
@@ -87,21 +87,6 @@ undefined_storable [] none = All-nil IsStorable
 undefined_storable (Int z ∷ values) none = cc
 undefined_storable (Text bytes ∷ values) none = cc
 undefined_storable (Undefined ∷ values) none = All-cons IsStorable Undefined values tt (undefined_storable values none)
-
--- ---- one value more
-
-undefined_longer : (values : List Value) → list_all is_undefined (values ++ Undefined ∷ []) ≡ list_all is_undefined values
-undefined_longer [] = refl
-undefined_longer (value ∷ values) = ap (λ (b : Bool). is_undefined value && b) (undefined_longer values)
-
--- one more value that is undefined gives the same bytes
-pub tuple_longer : (forms : List FieldForm) (values : List Value) (form : FieldForm) → length values ≤ length forms → tuple_bytes (forms ++ form ∷ []) (values ++ Undefined ∷ []) ≡ tuple_bytes forms values
-tuple_longer [] [] form few = refl
-tuple_longer [] (value ∷ values) form few = absurd (omega arith)
-tuple_longer (first ∷ forms) [] form few = refl
-tuple_longer (first ∷ forms) (value ∷ values) form few =
-    ap (λ (b : Bool). cond b [] (marked_bytes first.added value ++ tuple_bytes (forms ++ form ∷ []) (values ++ Undefined ∷ []))) (undefined_longer (value ∷ values))
-    ∙ ap (λ (bytes : List ℕ). cond (list_all is_undefined (value ∷ values)) [] (marked_bytes first.added value ++ bytes)) (tuple_longer forms values form (omega arith))
 
 -- ---- how many bytes there are
 

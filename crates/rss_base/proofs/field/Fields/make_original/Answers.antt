@@ -1,7 +1,8 @@
 use Rattle.std.proofs.Common.{◌≡◌, List, length, take, map, ◌∙◌, ap, arith, ◌++◌, [], drop}
 use Rattle.std.proofs.lemmas.List.{take_all, append-nil, drop_all}
 use Rattle.rss_base.specs.declared.field.FieldDef.{FieldDef}
-use Rattle.rss_base.proofs.Originals.{as_original, all_original}
+use Rattle.rss_base.specs.TupleTypes.{as_original}
+use Rattle.rss_base.proofs.Originals.{all_original}
 use Rattle.rss_base.proofs.field.Fields.make_original.Goals as goal
 
 pub returns : goal.returns
