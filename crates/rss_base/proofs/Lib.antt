@@ -13,3 +13,5 @@ pub mod Equal
 pub mod Originals
 pub mod Fronts
 pub mod TupleBytes
+pub mod Entries
+pub mod LogPages

@@ -36,10 +36,6 @@ slots_at slots log_pages = log_at slots + log_pages
 abbrev pub device_pages : Root → ℕ
 device_pages root = slots_at root.slots root.log_pages + root.slots
 
--- a page of the selector or a root
-abbrev pub IsHeadPage : Places
-IsHeadPage q = q < head_pages
-
 -- ---- the selector
 
 -- The root that a selector names: root 1 where the lowest bit of its first byte is 0, else root 2.

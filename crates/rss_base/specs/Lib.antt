@@ -18,6 +18,7 @@ pub mod Tids
 pub mod Items
 pub mod TupleTypes
 pub mod Listings
+pub mod Entries
 pub mod Nodes
 pub mod Trees
 pub mod Prefixes

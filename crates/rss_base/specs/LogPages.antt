@@ -34,10 +34,6 @@ pub record IsPiecePage (first ring k count q : ℕ) : Type 0 where
   pub high : index < k + count
   pub is : q ≡ first + index % ring
 
--- a page of a piece of the log that a root tells
-abbrev pub IsLogPage : Root → ℕ → Type 0
-IsLogPage root q = IsPiecePage (log_at root.slots) root.log_pages (root.head / piece_bytes) (root.end / piece_bytes - root.head / piece_bytes) q
-
 -- a page of a piece that becomes full where the log grows up to a new end
 abbrev pub IsNewPiece : Root → ℕ → ℕ → Type 0
 IsNewPiece root end q = IsPiecePage (log_at root.slots) root.log_pages (root.end / piece_bytes) (end / piece_bytes - root.end / piece_bytes) q

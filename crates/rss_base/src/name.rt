@@ -1,6 +1,6 @@
 // Names of what a store defines.
-ghost use Rattle.std.specs.Prelude.{◌↔◌, IsTrue, All};
-ghost use Rattle.rss_base.specs.Names.{IsNameByte, IsNameText};
+ghost use Rattle.std.specs.Prelude.{◌≡◌, ◌↔◌, IsTrue, All, length};
+ghost use Rattle.rss_base.specs.Names.{IsNameByte, IsNameText, name_bytes};
 
 /// How many bytes a name has, with the zeros past its end.
 pub const NAME_BYTES: usize = 16;
@@ -11,6 +11,11 @@ pub const NAME_BYTES: usize = 16;
 pub struct Name {
     pub bytes: [u8; NAME_BYTES],
 }
+
+/// A name has as many bytes as any other, with the zeros past its end. It does nothing.
+pub fn name_is_whole(name: Name)
+    ensures { length name.bytes ≡ name_bytes }
+{}
 
 /// Whether these are the bytes of a name, without the zeros past its end.
 pub fn is_name_text(bytes: &[u8]) -> bool
