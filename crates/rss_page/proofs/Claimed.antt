@@ -9,7 +9,7 @@ use Rattle.std.proofs.lemmas.List.{length-replicate, get_or-replicate, get_or_pa
 use Rattle.rss_page.specs.declared.entry_form.Entry.{Entry}
 use Rattle.rss_page.specs.declared.entry_form.Entry.TheVariants.{Here as HereEntry}
 use Rattle.rss_page.specs.Slotted.{entry_at, entry_of, IsInBody, IsAllowed, IsEntry, IsSlotted}
-use Rattle.rss_page.specs.Marks.{mark_at, AreBits, IsWithin, Claims, IsClaimed, IsCovered, AreSlotted}
+use Rattle.rss_page.specs.Marks.{mark_at, AreBits, IsWithin, Claims, IsClaimed}
 use Rattle.rss_page.proofs.Contents.{body_within}
 
 -- the bit of a byte of a word
@@ -98,6 +98,20 @@ claim_met old now place count word bits is are small some =
     }
 
 -- ---- the slots of a page
+
+-- a body of the first slots has this byte
+pub record IsCovered (page : List ℕ) (count byte : ℕ) : Type 0 where
+  pub slot : ℕ
+  pub low : slot < count
+  pub inside : IsInBody (entry_of page slot) byte
+
+-- The entries of the first slots are spelled as they should be, and no byte belongs to two bodies of them. The bytes of those are marked, and no others.
+pub record AreSlotted (page : List ℕ) (count : ℕ) (marks : List ℕ) : Type 0 where
+  pub size : length marks ≡ 64
+  pub spelled : (slot : ℕ) → slot < count → IsEntry (get_or page 0 0) (entry_at page slot)
+  pub apart : (a b byte : ℕ) → a < count → b < count → IsInBody (entry_of page a) byte → IsInBody (entry_of page b) byte → a ≡ b
+  pub marked : (byte : ℕ) → mark_at marks byte ≡ 1 → IsCovered page count byte
+  pub covered : (slot byte : ℕ) → slot < count → IsInBody (entry_of page slot) byte → mark_at marks byte ≡ 1
 
 -- nothing is marked at first
 pub slots_none : (page : List ℕ) → AreSlotted page 0 (replicate {A = ℕ} 64 0)

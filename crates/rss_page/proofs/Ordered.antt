@@ -5,8 +5,9 @@ use Rattle.rss_page.specs.declared.entry_form.Entry.{Entry}
 use Rattle.rss_page.specs.declared.entry_form.Entry.TheVariants.{Empty as EmptyEntry, Here as HereEntry, Forward as ForwardEntry}
 use Rattle.rss_page.specs.declared.surveying.Survey.{Survey}
 use Rattle.rss_page.specs.Slotted.{entry_at, entry_of, place_of, length_of, IsInBody, IsAllowed, IsEntry}
-use Rattle.rss_page.specs.Surveyed.{StandsFrom, IsOrdered, FirstEndBy, IsSurveyOf, IsOrderedSurveyOf}
+use Rattle.rss_page.specs.Surveyed.{StandsFrom, IsOrdered}
 use Rattle.rss_page.proofs.Sums.{body_more}
+use Rattle.rss_page.proofs.Walks.{FirstEndBy, IsSurveyOf}
 
 -- ---- one entry
 
@@ -34,6 +35,13 @@ stands_last page count space end (HereEntry place length) allowed least each = l
 stands_last page count space end (ForwardEntry to_page to_slot) allowed least each = tt
 
 -- ---- the walk
+
+-- What a walk over the first slots finds of any bytes, so long as bodies stand in the order of their slots. What is free of the 3,056 bytes is at least what stands behind the last body.
+pub record IsOrderedSurveyOf (page : List ℕ) (count : ℕ) (found : Survey) : Type 0 where
+  pub spelled : (slot : ℕ) → slot < count → IsEntry (get_or page 0 0) (entry_at page slot)
+  pub order : (low high : ℕ) → low < high → high < count → StandsFrom (place_of (entry_of page low) + length_of (entry_of page low)) (entry_of page high)
+  pub survey : IsSurveyOf page count found
+  pub room : 4096 ≤ found.free + found.end
 
 pub ordered_more : (page : List ℕ) (slot : ℕ) (found now : Survey) → length page ≡ 4096 → slot < 128 → IsEntry (get_or page 0 0) (entry_at page slot) → StandsFrom found.end (entry_of page slot) → IsOrderedSurveyOf page slot found → IsSurveyOf page (slot + 1) now → IsOrderedSurveyOf page (slot + 1) now
 ordered_more page slot found now size low is stands before after =

@@ -1,5 +1,5 @@
 -- A walk over the directory.
-use Rattle.std.proofs.Common.{◌≡◌, inl, inr, ℕ, ◌+◌, ◌<◌, ◌≤◌, ◌∙◌, max, Bool, true, false, Option, Some, None, List, length, get_or, sym, ap, subst, arith}
+use Rattle.std.proofs.Common.{◌≡◌, inl, inr, ℕ, ◌+◌, ◌<◌, ◌≤◌, ◌∙◌, max, Bool, true, false, Option, Some, None, List, length, take, get_or, sym, ap, subst, arith}
 use Rattle.std.specs.Prelude.{◌↔◌, ◌&&◌, if◌then◌else◌, IsTrue, MatchOption, unwrap_or}
 use Rattle.std.proofs.lemmas.Bool.{cases_lt, cases_eq, false≢true}
 use Rattle.std.proofs.lemmas.List.{take_all, get_or_past}
@@ -9,7 +9,7 @@ use Rattle.rss_page.specs.declared.entry_form.Entry.TheVariants.{Empty as EmptyE
 use Rattle.rss_page.specs.declared.surveying.Survey.{Survey}
 use Rattle.rss_page.specs.Content.{Content, Empty, body_length}
 use Rattle.rss_page.specs.Slotted.{entry_of, entries, body_bytes, place_of, length_of, IsAllowed, IsSlotted}
-use Rattle.rss_page.specs.Surveyed.{held_at, is_empty, AllTaken, IsFirstEmpty, IsSurvey, IsSurveyOf, GoesOnWith}
+use Rattle.rss_page.specs.Surveyed.{held_at, is_empty, AllTaken, IsFirstEmpty, IsSurvey, GoesOnWith}
 use Rattle.rss_page.proofs.Contents.{length-entries, held_is}
 use Rattle.rss_page.proofs.Claimed.{entry_within}
 use Rattle.rss_page.proofs.Sums.{body_more, bodies_fit}
@@ -20,6 +20,20 @@ first_more P count before here slot few = elim (cases_eq slot count) [
   | inl same ↦ subst P (sym same) here
   | inr differ ↦ before slot (omega (arith, differ))
 ]
+
+-- the bodies of the first slots end at this place or before it
+abbrev pub FirstEndBy : List ℕ → ℕ → ℕ → Type 0
+FirstEndBy page count end = (slot : ℕ) → slot < count → place_of (entry_of page slot) + length_of (entry_of page slot) ≤ end
+
+-- what a walk over the first slots finds
+pub record IsSurveyOf (page : List ℕ) (count : ℕ) (survey : Survey) : Type 0 where
+  pub free : survey.free + body_bytes (take count (entries page)) ≡ 3056
+  pub low : 1040 ≤ survey.end
+  pub high : survey.end ≤ 4096
+  pub ends : FirstEndBy page count survey.end
+  pub least : (end : ℕ) → 1040 ≤ end → FirstEndBy page count end → survey.end ≤ end
+  pub empty : MatchOption survey.first_empty (AllTaken (entries page) count) (IsFirstEmpty (entries page))
+  pub vacant : IsTrue survey.is_vacant ↔ ((slot : ℕ) → slot < count → held_at (entries page) slot ≡ Empty)
 
 pub walk_none : (page : List ℕ) (found : Survey) → found.free ≡ 3056 → found.end ≡ 1040 → found.first_empty ≡ None → found.is_vacant ≡ true → IsSurveyOf page 0 found
 walk_none page found free end first vacant = record {

@@ -3,7 +3,7 @@ use Rattle.std.specs.Prelude.{◌≡◌, ◌⊎◌, ℕ, ◌+◌, ◌<◌, ◌�
 use Rattle.std.specs.Int.{bit_at}
 use Rattle.rss_base.specs.Sizes.{page_bytes}
 use Rattle.rss_page.specs.declared.entry_form.Entry.{Entry}
-use Rattle.rss_page.specs.Slotted.{place_of, length_of, entry_of, entry_at, IsInBody, IsEntry}
+use Rattle.rss_page.specs.Slotted.{place_of, length_of, IsInBody}
 
 -- the bit of a byte, in words of 64 bits
 abbrev pub mark_at : List ℕ → ℕ → ℕ
@@ -31,17 +31,3 @@ pub record IsClaimed (marks : List ℕ) (entry : Entry) : Type 0 where
   pub byte : ℕ
   pub inside : IsInBody entry byte
   pub marked : mark_at marks byte ≡ 1
-
--- a body of the first slots has this byte
-pub record IsCovered (page : List ℕ) (count byte : ℕ) : Type 0 where
-  pub slot : ℕ
-  pub low : slot < count
-  pub inside : IsInBody (entry_of page slot) byte
-
--- The entries of the first slots are spelled as they should be, and no byte belongs to two bodies of them. The bytes of those are marked, and no others.
-pub record AreSlotted (page : List ℕ) (count : ℕ) (marks : List ℕ) : Type 0 where
-  pub size : length marks ≡ 64
-  pub spelled : (slot : ℕ) → slot < count → IsEntry (slice_index_or page 0 0) (entry_at page slot)
-  pub apart : (a b byte : ℕ) → a < count → b < count → IsInBody (entry_of page a) byte → IsInBody (entry_of page b) byte → a ≡ b
-  pub marked : (byte : ℕ) → mark_at marks byte ≡ 1 → IsCovered page count byte
-  pub covered : (slot byte : ℕ) → slot < count → IsInBody (entry_of page slot) byte → mark_at marks byte ≡ 1

@@ -1,11 +1,11 @@
 -- What one walk over the directory of a page finds.
-use Rattle.std.specs.Prelude.{◌≡◌, ◌↔◌, ℕ, ◌+◌, ◌<◌, ◌≤◌, max, Bool, true, false, ◌&&◌, if◌then◌else◌, List, length as count, take, slice_index_or, Some, unwrap_or, IsTrue, MatchOption}
+use Rattle.std.specs.Prelude.{◌≡◌, ◌↔◌, ℕ, ◌+◌, ◌<◌, ◌≤◌, max, Bool, true, false, ◌&&◌, if◌then◌else◌, List, length as count, slice_index_or, Some, unwrap_or, IsTrue, MatchOption}
 use Rattle.rss_base.specs.Sizes.{page_entries, page_bytes, bodies_room}
 use Rattle.rss_page.specs.declared.entry_form.Entry.{Entry}
 use Rattle.rss_page.specs.declared.entry_form.Entry.TheVariants.{Empty as EmptyEntry, Here as HereEntry, Forward as ForwardEntry}
 use Rattle.rss_page.specs.declared.surveying.Survey.{Survey}
 use Rattle.rss_page.specs.Content.{Content, Empty, Here}
-use Rattle.rss_page.specs.Slotted.{bodies_at, entries, entry_at, entry_of, body_bytes, place_of, length_of, IsEntry, IsSlotted, EndBy, OthersBeside}
+use Rattle.rss_page.specs.Slotted.{bodies_at, entries, entry_of, body_bytes, place_of, length_of, IsSlotted, EndBy, OthersBeside}
 
 -- what the entry of a slot holds
 abbrev pub held_at : List Content → ℕ → Content
@@ -61,20 +61,6 @@ pub record IsOrdered (page : List ℕ) : Type 0 where
 
 -- ---- the walk
 
--- the bodies of the first slots end at this place or before it
-abbrev pub FirstEndBy : List ℕ → ℕ → ℕ → Type 0
-FirstEndBy page count end = (slot : ℕ) → slot < count → place_of (entry_of page slot) + length_of (entry_of page slot) ≤ end
-
--- the same of the first slots alone
-pub record IsSurveyOf (page : List ℕ) (count : ℕ) (survey : Survey) : Type 0 where
-  pub free : survey.free + body_bytes (take count (entries page)) ≡ bodies_room
-  pub low : bodies_at ≤ survey.end
-  pub high : survey.end ≤ page_bytes
-  pub ends : FirstEndBy page count survey.end
-  pub least : (end : ℕ) → bodies_at ≤ end → FirstEndBy page count end → survey.end ≤ end
-  pub empty : MatchOption survey.first_empty (AllTaken (entries page) count) (IsFirstEmpty (entries page))
-  pub vacant : IsTrue survey.is_vacant ↔ ((slot : ℕ) → slot < count → held_at (entries page) slot ≡ Empty)
-
 -- the entry holds nothing
 abbrev pub is_empty : Entry → Bool
 is_empty EmptyEntry = true
@@ -87,10 +73,3 @@ pub record GoesOnWith (slot : ℕ) (entry : Entry) (old new : Survey) : Type 0 w
   pub end : new.end ≡ max old.end (place_of entry + length_of entry)
   pub first : new.first_empty ≡ (if is_empty entry then Some (unwrap_or old.first_empty slot) else old.first_empty)
   pub vacant : new.is_vacant ≡ is_empty entry && old.is_vacant
-
--- The same of any bytes, so long as bodies stand in the order of their slots. What is free of the 3,056 bytes is at least what stands behind the last body.
-pub record IsOrderedSurveyOf (page : List ℕ) (count : ℕ) (found : Survey) : Type 0 where
-  pub spelled : (slot : ℕ) → slot < count → IsEntry (slice_index_or page 0 0) (entry_at page slot)
-  pub order : (low high : ℕ) → low < high → high < count → StandsFrom (place_of (entry_of page low) + length_of (entry_of page low)) (entry_of page high)
-  pub survey : IsSurveyOf page count found
-  pub room : page_bytes ≤ found.free + found.end

@@ -23,19 +23,13 @@ pub fn blank(key: PageKey) -> Page
     page
 }
 
-/// Whether the bytes are a well-formed page of this key: whether the header is that of the key, each
-/// entry is one of the three kinds, with zeros where there are to be zeros and with a place and a
-/// length, or a slot, that are in range, and no byte belongs to two bodies. Whether a forward leads
-/// to a body is not tested.
-pub fn well_formed(page: &Page, key: PageKey) -> bool
-    ensures { IsTrue result ↔ IsWellFormed key page.now }
-{
-    survey(page, key).is_some()
-}
-
-/// What a walk over the directory finds, where the bytes are a well-formed page of this key. One walk
-/// is enough where the bodies stand in the order of their slots, as in a page that was filled slot
-/// by slot or compacted.
+/// What a walk over the directory finds, where the bytes are a well-formed page of this key: where
+/// the header is that of the key, each entry is one of the three kinds, with zeros where there are to
+/// be zeros and with a place and a length, or a slot, that are in range, and no byte belongs to two
+/// bodies. Whether a forward leads to a body is not tested.
+///
+/// One walk is enough where the bodies stand in the order of their slots, as in a page that was
+/// filled slot by slot or compacted.
 pub fn survey(page: &Page, key: PageKey) -> Option<Survey>
     ensures formed { IsSome result ↔ IsWellFormed key page.now }
     ensures found { IfSome result (IsSurvey page.now) }

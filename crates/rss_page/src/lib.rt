@@ -13,5 +13,5 @@ pub use checked::{bytes_at, checked_entry};
 pub use directory::{body, entry};
 pub use editing::{compact, forward_at, overwrite, own_place, put_at, put_found, remove};
 pub use entry_form::{ENTRIES, Entry};
-pub use form::{blank, has_header, survey, well_formed};
+pub use form::{blank, has_header, survey};
 pub use surveying::{Survey, fits};

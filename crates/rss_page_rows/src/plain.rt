@@ -1,7 +1,7 @@
 // What a page holds, as a plain list.
 use crate::slotted::{ENTRIES, KEY, Slotted};
 use rss_asserts::assert_same;
-use rss_page::{Entry, survey, well_formed};
+use rss_page::{Entry, survey};
 use std::test::Fail;
 
 /// What an entry holds. The bytes of a body count up from the first one.
@@ -86,7 +86,6 @@ pub(crate) fn assert_holds(page: &Slotted, plain: &Plain, case: u32) -> Result<(
         let held = plain[usize::from(slot)];
         assert_same(&holds(page, slot, held), &true, (case, slot))?;
     }
-    assert_same(&well_formed(page.page(), KEY), &true, case)?;
     let found = page.survey();
     assert_same(&survey(page.page(), KEY), &Some(found), case)?;
     let free = 3056u32.saturating_sub(bytes_of(plain));

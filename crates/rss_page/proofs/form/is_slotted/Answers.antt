@@ -2,8 +2,8 @@ use Rattle.std.proofs.Common.{◌≡◌, ℕ, get_or, refl, subst, sym, arith}
 use Rattle.std.proofs.lemmas.Bool.{false≢true}
 use Rattle.rss_page.specs.declared.entry_form.Entry.{Entry}
 use Rattle.rss_page.specs.Slotted.{entry_of}
-use Rattle.rss_page.specs.Marks.{IsWithin, Claims, IsClaimed, AreSlotted}
-use Rattle.rss_page.proofs.Claimed.{slots_none, slots_more, slots_all, entry_within, not_claimed}
+use Rattle.rss_page.specs.Marks.{IsWithin, Claims, IsClaimed}
+use Rattle.rss_page.proofs.Claimed.{AreSlotted, slots_none, slots_more, slots_all, entry_within, not_claimed}
 use Rattle.rss_page.proofs.form.is_slotted.Goals as goal
 
 pub loop-slot-init : goal.loop-slot-init

@@ -1,4 +1,4 @@
-use Rattle.rss_page.specs.Marks.{AreSlotted}
+use Rattle.rss_page.proofs.Claimed.{AreSlotted}
 use Rattle.rss_page.proofs.form.is_slotted.Given as goal
 
 abbrev pub invariant-loop-slot : goal.invariant-loop-slot

@@ -1,9 +1,8 @@
 use Rattle.std.proofs.Common.{◌≡◌, ℕ, get_or, refl, sym, ap, subst, arith}
 use Rattle.rss_page.specs.Marks.{IsWithin}
 use Rattle.rss_page.specs.Slotted.{entry_of, length_of}
-use Rattle.rss_page.specs.Surveyed.{IsSurveyOf}
 use Rattle.rss_page.proofs.Claimed.{entry_within}
-use Rattle.rss_page.proofs.Walks.{walk_none, walk_fits, walk_more, walk_all}
+use Rattle.rss_page.proofs.Walks.{IsSurveyOf, walk_none, walk_fits, walk_more, walk_all}
 use Rattle.rss_page.proofs.surveying.Survey.of.Goals as goal
 
 pub loop-slot-init : goal.loop-slot-init

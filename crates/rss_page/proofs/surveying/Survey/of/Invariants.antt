@@ -1,4 +1,4 @@
-use Rattle.rss_page.specs.Surveyed.{IsSurveyOf}
+use Rattle.rss_page.proofs.Walks.{IsSurveyOf}
 use Rattle.rss_page.proofs.surveying.Survey.of.Given as goal
 
 abbrev pub invariant-loop-slot : goal.invariant-loop-slot

@@ -1,9 +1,9 @@
 use Rattle.std.proofs.Common.{◌≡◌, ℕ, refl, sym, subst, arith}
 use Rattle.std.proofs.lemmas.Bool.{false≢true}
 use Rattle.rss_page.specs.Slotted.{entry_of}
-use Rattle.rss_page.specs.Surveyed.{StandsFrom, IsOrderedSurveyOf}
+use Rattle.rss_page.specs.Surveyed.{StandsFrom}
 use Rattle.rss_page.proofs.Walks.{walk_more, walk_all}
-use Rattle.rss_page.proofs.Ordered.{ordered_more, ordered_all, ordered_no_more}
+use Rattle.rss_page.proofs.Ordered.{IsOrderedSurveyOf, ordered_more, ordered_all, ordered_no_more}
 use Rattle.rss_page.proofs.surveying.Survey.of_ordered.Goals as goal
 
 pub returns-then-not-stands_from-clause-ordered : goal.returns-then-not-stands_from-clause-ordered

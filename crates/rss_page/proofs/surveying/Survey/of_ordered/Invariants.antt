@@ -1,4 +1,4 @@
-use Rattle.rss_page.specs.Surveyed.{IsOrderedSurveyOf}
+use Rattle.rss_page.proofs.Ordered.{IsOrderedSurveyOf}
 use Rattle.rss_page.proofs.surveying.Survey.of_ordered.Given as goal
 
 abbrev pub invariant-loop-slot : goal.invariant-loop-slot
