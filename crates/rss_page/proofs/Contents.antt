@@ -1,6 +1,5 @@
 -- What the entries of a page hold.
-use Rattle.std.proofs.Common.{◌≡◌, ◌⊎◌, inl, inr, ℕ, ◌+◌, ◌-◌, ◌<◌, ◌^◌, Option, Some, None, List, length, take, drop, get_or, refl, sym, ◌∙◌, ap, arith, ext_get_or, length-take-le, length-drop}
-use Rattle.std.specs.Prelude.{IfSome}
+use Rattle.std.proofs.Common.{◌≡◌, ◌⊎◌, inl, inr, ℕ, ◌+◌, ◌-◌, ◌<◌, ◌^◌, List, length, take, drop, get_or, refl, sym, ◌∙◌, ap, arith, ext_get_or, length-take-le, length-drop}
 use Rattle.std.proofs.lemmas.List.FromFn.{length-map-range_with_len, get_or-map-range_with_len}
 use Rattle.std.proofs.lemmas.Nat.{from_be_bytes-to_be_bytes_2, from_be_bytes-to_be_bytes_4}
 use Rattle.rss_page.specs.declared.entry_form.Entry.{Entry}
@@ -71,11 +70,6 @@ no_place page (ForwardEntry to_page to_slot) not = refl
 -- what the entry of a slot holds, by that entry
 pub held_is : (page : List ℕ) (slot : ℕ) (entry : Entry) → slot < 128 → entry ≡ entry_of page slot → get_or (entries page) slot Empty ≡ content_of page entry
 held_is page slot entry low is = entries_at page slot low ∙ ap (content_of page) (sym is)
-
--- and where there may be none
-pub held_some : (page : List ℕ) (slot : ℕ) (found : Option Entry) → slot < 128 → IfSome found (λ entry. entry ≡ entry_of page slot) → IfSome found (λ entry. get_or (entries page) slot Empty ≡ content_of page entry)
-held_some page slot None low is = tt
-held_some page slot (Some entry) low is = held_is page slot entry low is
 
 -- a part that code lends
 pub lent : (page : List ℕ) (place start count bytes : ℕ) → start ≡ place → bytes ≡ count → take (start + bytes - start) (drop start page) ≡ part page place count

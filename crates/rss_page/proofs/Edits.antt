@@ -149,6 +149,10 @@ edit_here {old = old} {entry = entry} edit = ap entry_from edit.here ∙ entry_b
 pub edit_stay : {old new : List ℕ} {slot : ℕ} {entry : Entry} {content : Content} → Edit old new slot entry content → OthersStay old new slot
 edit_stay edit = λ other low differ. ap entry_from (edit.others other low differ)
 
+-- a place behind them has none of their bytes
+pub ends_beside : (page : List ℕ) (slot end count : ℕ) → OthersEndBy page slot end → OthersBeside page slot end count
+ends_beside page slot end count free = λ other low differ. inl (free other low differ)
+
 -- all bodies end where the new one does
 pub edit_ends : (old new : List ℕ) (slot : ℕ) (entry : Entry) (end now : ℕ) → entry_of new slot ≡ entry → OthersStay old new slot → OthersEndBy old slot end → end ≤ now → place_of entry + length_of entry ≤ now → EndBy new now
 edit_ends old new slot entry end now here stay free le own = λ other low. elim (cases_eq other slot) [

@@ -1,7 +1,7 @@
 // Entries of bytes that may be no page.
-ghost use Rattle.std.specs.Prelude.{◌≡◌, ◌↔◌, ◌<◌, IsSome, IfSome, IfNone, slice_index_or};
+ghost use Rattle.std.specs.Prelude.{◌≡◌, ◌↔◌, ◌<◌, IsSome, IfSome, slice_index_or};
 ghost use Rattle.rss_base.specs.Sizes.{page_entries};
-ghost use Rattle.rss_page.specs.Slotted.{part, entry_at, entry_of, content_of, entries, IsAllowed, IsBody, IsEntry, IsSlotted};
+ghost use Rattle.rss_page.specs.Slotted.{part, entry_at, entry_of, content_of, entries, IsBody, IsEntry};
 ghost use Rattle.rss_page.specs.Surveyed.{held_at};
 
 use crate::directory::entry_bytes_at;
@@ -10,20 +10,12 @@ use rss_base::Page;
 
 /// The entry of a slot, where it is spelled as it should be and may stand in a page of this space.
 /// Nothing else of the page is looked at.
+#[inline(always)]
 pub fn checked_entry(page: &Page, slot: u8) -> Option<Entry>
     requires { slot < page_entries }
-    ensures holds { IfSome result (λ found. held_at (entries page.now) slot ≡ content_of page.now found) }
-    ensures allowed { IfSome result (IsAllowed (slice_index_or page.now 0 0)) }
-    ensures none { IfNone result (IsSlotted page.now → ⊥) }
-{
-    formed_entry(page, slot)
-}
-
-/// The same, by the bytes of the entry.
-#[inline(always)]
-pub(crate) fn formed_entry(page: &Page, slot: u8) -> Option<Entry>
-    requires { slot < page_entries }
-    ensures some { IfSome result (λ found. found ≡ entry_of page.now slot) }
+    ensures spelled { IfSome result (λ found. found ≡ entry_of page.now slot) }
+    ensures holds { IfSome result
+        (λ found. held_at (entries page.now) slot ≡ content_of page.now found) }
     ensures exact { IsSome result ↔ IsEntry (slice_index_or page.now 0 0) (entry_at page.now slot) }
 {
     let found = Entry::spelled(&entry_bytes_at(page, slot))?;

@@ -2,10 +2,10 @@
 ghost use Rattle.std.specs.Prelude.{◌≡◌, ◌+◌, ◌-◌, ◌<◌, ◌≤◌, ℕ, length, replicate, IfSome, IfNone};
 ghost use Rattle.rss_base.specs.Sizes.{page_entries, page_bytes, bodies_room};
 ghost use Rattle.rss_page.specs.Content.{Empty, Here, Forward, body_length};
-ghost use Rattle.rss_page.specs.Slotted.{bodies_at, part, entries, body_bytes, HasRoom, IsBody, IsSlotted, IsHome, Becomes, Sets, EndBy, MayPut, Overwrites, OthersBeside, OthersEndBy, OthersStay, OthersStayIfRoom};
+ghost use Rattle.rss_page.specs.Slotted.{bodies_at, part, entries, body_bytes, HasRoom, IsBody, IsSlotted, IsHome, Becomes, Sets, EndBy, MayPut, Overwrites, OthersBeside, OthersStay, OthersStayIfRoom};
 ghost use Rattle.rss_page.specs.Surveyed.{held_at, HasNoneAsLong, IsOwnPlace, IsSurvey};
 
-use crate::checked::formed_entry;
+use crate::checked::checked_entry;
 use crate::directory::{HEADER_BYTES, entry, set_entry};
 use crate::entry_form::{BODIES_AT, ENTRIES, Entry, PAGE_END};
 use crate::surveying::Survey;
@@ -51,7 +51,7 @@ pub fn put_at(page: &mut Page, slot: u8, body: &[u8])
 {
     remove(page, slot);
     let end = make_room(page, body.len() as u16);
-    append(page, slot, end, body);
+    overwrite(page, slot, end, body);
 }
 
 /// The same, by what a walk has found in the page. A body that isn't longer than the one that stands
@@ -66,7 +66,7 @@ pub fn put_found(page: &mut Page, slot: u8, body: &[u8], found: &Survey)
     if let Some(place) = own_place(page, slot, body.len() as u16) {
         overwrite(page, slot, place, body);
     } else if found.end <= PAGE_END - body.len() as u16 {
-        append(page, slot, found.end, body);
+        overwrite(page, slot, found.end, body);
     } else {
         put_at(page, slot, body);
     }
@@ -81,7 +81,7 @@ pub fn own_place(page: &Page, slot: u8, length: u16) -> Option<u16>
     ensures own { IfSome result (IsOwnPlace page.now slot length) }
     ensures none { IfNone result (HasNoneAsLong page.now slot length) }
 {
-    let Entry::Here { place, length: own } = formed_entry(page, slot)? else {
+    let Entry::Here { place, length: own } = checked_entry(page, slot)? else {
         return None;
     };
     if length <= own { Some(place) } else { None }
@@ -151,7 +151,7 @@ fn carry(from: &Page, page: &mut Page, slot: u8, end: u16) -> u16
         }
         Entry::Here { place, length } => {
             let start = usize::from(place);
-            append(page, slot, end, &from[start..start + usize::from(length)]);
+            overwrite(page, slot, end, &from[start..start + usize::from(length)]);
             end + length
         }
         Entry::Forward {
@@ -162,19 +162,6 @@ fn carry(from: &Page, page: &mut Page, slot: u8, end: u16) -> u16
             end
         }
     }
-}
-
-/// Gives an entry a body that stands behind all others.
-fn append(page: &mut Page, slot: u8, end: u16, body: &[u8])
-    requires slotted { IsSlotted page.old }
-    requires slot { slot < page_entries }
-    requires free { OthersEndBy page.old slot end }
-    requires place { IsBody end (length body.now) }
-    ensures becomes { Sets page.old page.new slot (Here body.now) }
-    ensures stay { OthersStay page.old page.new slot }
-    ensures ends { EndBy page.new (end + length body.now) }
-{
-    overwrite(page, slot, end, body);
 }
 
 /// Gives an entry a body at a place. Nothing of the page is looked at, so it may be any bytes; in a

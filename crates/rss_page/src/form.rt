@@ -5,7 +5,7 @@ ghost use Rattle.rss_page.specs.Content.{Empty};
 ghost use Rattle.rss_page.specs.Slotted.{entries, header_bytes, IsAllowed, IsHeader, IsHeapKey, IsSlotted, IsWellFormed};
 ghost use Rattle.rss_page.specs.Surveyed.{IsSurvey};
 
-use crate::checked::formed_entry;
+use crate::checked::checked_entry;
 use crate::directory::HEADER_BYTES;
 use crate::entry_form::ENTRIES;
 use crate::marks::{Marks, claim};
@@ -80,7 +80,7 @@ fn is_slotted(page: &Page) -> bool
 {
     let mut marks: Marks = [0; PAGE_BYTES / 64];
     for slot in 0..ENTRIES {
-        let Some(entry) = formed_entry(page, slot) else {
+        let Some(entry) = checked_entry(page, slot) else {
             return false;
         };
         if !claim(&mut marks, entry) {

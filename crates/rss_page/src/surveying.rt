@@ -6,7 +6,7 @@ ghost use Rattle.rss_page.specs.Marks.{IsWithin};
 ghost use Rattle.rss_page.specs.Slotted.{entries, length_of, HasRoom, IsSlotted};
 ghost use Rattle.rss_page.specs.Surveyed.{GoesOnWith, IsOrdered, IsSurvey};
 
-use crate::checked::formed_entry;
+use crate::checked::checked_entry;
 use crate::directory::entry;
 use crate::entry_form::{BODIES_AT, ENTRIES, Entry, PAGE_END};
 use rss_base::Page;
@@ -64,7 +64,7 @@ impl Survey {
     {
         let mut found = NOTHING;
         for slot in 0..ENTRIES {
-            let entry = formed_entry(page, slot)?;
+            let entry = checked_entry(page, slot)?;
             if !entry.stands_from(found.end) {
                 return None;
             }

@@ -1,5 +1,7 @@
-use Rattle.rss_page.proofs.Contents.{held_some}
+use Rattle.std.proofs.Common.{◌∙◌, ap}
+use Rattle.rss_page.specs.Slotted.{entry_from}
+use Rattle.rss_page.proofs.Contents.{held_is}
 use Rattle.rss_page.proofs.checked.checked_entry.Goals as goal
 
-pub returns-clause-holds : goal.returns-clause-holds
-returns-clause-holds c = held_some c.args.page.now c.args.slot c.formed_entry.result c.requires c.formed_entry.ensures.some
+pub returns-then-is_allowed-clause-holds : goal.returns-then-is_allowed-clause-holds
+returns-then-is_allowed-clause-holds c = held_is c.args.page.now c.args.slot _ c.requires (c.in_ok-found.ensures.some ∙ ap entry_from c.entry_bytes_at.ensures)

@@ -1,13 +1,14 @@
-use Rattle.std.proofs.Common.{◌≡◌, ℕ, List, length, set, get_or, sym, ◌∙◌, ap, subst, arith}
+use Rattle.std.proofs.Common.{◌≡◌, ◌+◌, ℕ, List, length, set, get_or, sym, ◌∙◌, ap, subst, arith}
 use Rattle.rss_page.specs.Content.{Content, Empty, Here, Forward}
 use Rattle.rss_page.specs.Slotted.{part, entries, IsAllowed, IsBody, Becomes}
 use Rattle.rss_page.specs.declared.entry_form.Entry.TheVariants.{Here as HereEntry}
 use Rattle.rss_page.proofs.Contents.{held_is, body_long, lent}
+use Rattle.rss_page.proofs.Edits.{edit_ends, ends_beside}
 use Rattle.rss_page.proofs.Moves.{ends_without}
 use Rattle.rss_page.proofs.editing.carry.Goals as goal
 
-pub append-requires-clause-place : goal.append-requires-clause-place
-append-requires-clause-place c =
+pub overwrite-requires-clause-place : goal.overwrite-requires-clause-place
+overwrite-requires-clause-place c =
     let from = c.args.from.now in
     let body : IsBody c.in-Here.place c.in-Here.length = subst (IsAllowed (get_or from 0 0)) (sym c.in-Here.ensures.spelled) (c.requires.from.spelled c.args.slot c.requires.slot).allowed in
     let long : length (part from c.in-Here.place c.in-Here.length) ≡ c.in-Here.length = body_long from (get_or from 0 0) (HereEntry c.in-Here.place c.in-Here.length) c.requires.from.size body in
@@ -27,7 +28,16 @@ pub returns-in-Here-clause-becomes : goal.returns-in-Here-clause-becomes
 returns-in-Here-clause-becomes c =
     let same = held_is c.args.from.now c.args.slot _ c.requires.slot c.in-Here.ensures.spelled in
     let body = lent c.args.from.now c.in-Here.place c.from-start.result c.in-Here.length c.from.result c.from-start.ensures c.from.ensures in
-    subst (λ (x : Content). Becomes c.args.page.now c.append.new.page (set (entries c.args.page.now) c.args.slot x)) (ap Here body ∙ sym same) c.append.ensures.becomes
+    subst (λ (x : Content). Becomes c.args.page.now c.overwrite.new.page (set (entries c.args.page.now) c.args.slot x)) (ap Here body ∙ sym same)
+    (c.overwrite.ensures c.requires.slotted (ends_beside _ _ _ _ (λ other low differ. c.requires.ends other low))).becomes
+
+pub returns-in-Here-clause-ends : goal.returns-in-Here-clause-ends
+returns-in-Here-clause-ends c =
+    let from = c.args.from.now in
+    let body : IsBody c.in-Here.place c.in-Here.length = subst (IsAllowed (get_or from 0 0)) (sym c.in-Here.ensures.spelled) (c.requires.from.spelled c.args.slot c.requires.slot).allowed in
+    let long = ap (λ (l : List ℕ). length l) (lent from c.in-Here.place c.from-start.result c.in-Here.length c.from.result c.from-start.ensures c.from.ensures) ∙ body_long from (get_or from 0 0) (HereEntry c.in-Here.place c.in-Here.length) c.requires.from.size body in
+    let wrote = c.overwrite.ensures c.requires.slotted (ends_beside _ _ _ _ (λ other low differ. c.requires.ends other low)) in
+    edit_ends c.args.page.now c.overwrite.new.page c.args.slot _ c.args.end (c.args.end + c.in-Here.length) wrote.stands wrote.stay (λ other low differ. c.requires.ends other low) (omega arith) (omega (arith, long))
 
 pub returns-in-Here-clause-close : goal.returns-in-Here-clause-close
 returns-in-Here-clause-close c =

@@ -9,7 +9,7 @@ use Rattle.rss_page.proofs.editing.own_place.Goals.{In-Here}
 
 -- the entry of the slot, and where its body stands
 entry_is : (c : In-Here) → HereEntry c.in-Here.place c.in-Here.own ≡ entry_of c.args.page.now c.args.slot
-entry_is c = sym c.in-Here.is ∙ c.in_ok-place.ensures.some
+entry_is c = sym c.in-Here.is ∙ c.in_ok-place.ensures.spelled
 
 whole : (c : In-Here) → IsBody c.in-Here.place c.in-Here.own
 whole c = subst (IsAllowed (get_or c.args.page.now 0 0)) (sym (entry_is c)) (c.in_ok-place.ensures.exact.0 refl).allowed
@@ -42,5 +42,5 @@ returns-in_default c = record {
   none = λ slotted body here few.
       let page = c.args.page.now in
       let entry = c.in_ok-place.field-0 in
-      no_body page entry body (sym (held_is page c.args.slot entry c.requires.slot c.in_ok-place.ensures.some) ∙ here) c.in_default.not-Here;
+      no_body page entry body (sym (held_is page c.args.slot entry c.requires.slot c.in_ok-place.ensures.spelled) ∙ here) c.in_default.not-Here;
 }

@@ -8,13 +8,13 @@ use Rattle.rss_page.proofs.surveying.Survey.of_ordered.Goals as goal
 
 pub returns-then-not-stands_from-clause-ordered : goal.returns-then-not-stands_from-clause-ordered
 returns-then-not-stands_from-clause-ordered c =
-    let not = λ (stands : StandsFrom c.loop-slot.found.end (entry_of c.args.page.now c.loop-slot.slot)). false≢true (c.if-not-stands_from.ensures.1 (subst (StandsFrom c.loop-slot.found.end) (sym c.in_ok-entry.ensures.some) stands)) in
+    let not = λ (stands : StandsFrom c.loop-slot.found.end (entry_of c.args.page.now c.loop-slot.slot)). false≢true (c.if-not-stands_from.ensures.1 (subst (StandsFrom c.loop-slot.found.end) (sym c.in_ok-entry.ensures.spelled) stands)) in
     (λ is. absurd (false≢true is), λ ordered. absurd (ordered_no_more c.args.page.now c.loop-slot.slot c.loop-slot.found c.loop-slot-test.true c.loop-slot.invariant not ordered))
 
 pub loop-slot-preserved : goal.loop-slot-preserved
 loop-slot-preserved c =
-    let stands = subst (StandsFrom c.loop-slot.found.end) c.in_ok-entry.ensures.some (c.if-not-stands_from.ensures.0 refl) in
-    ordered_more c.args.page.now c.loop-slot.slot c.loop-slot.found c.with-found.result c.told-page c.loop-slot-test.true (c.in_ok-entry.ensures.exact.0 refl) stands c.loop-slot.invariant (walk_more c.args.page.now c.loop-slot.slot c.in_ok-entry.entry c.loop-slot.found c.with-found.result c.told-page (c.in_ok-entry.ensures.exact.0 refl).allowed c.loop-slot-test.true c.in_ok-entry.ensures.some c.loop-slot.invariant.survey c.with-found.ensures)
+    let stands = subst (StandsFrom c.loop-slot.found.end) c.in_ok-entry.ensures.spelled (c.if-not-stands_from.ensures.0 refl) in
+    ordered_more c.args.page.now c.loop-slot.slot c.loop-slot.found c.with-found.result c.told-page c.loop-slot-test.true (c.in_ok-entry.ensures.exact.0 refl) stands c.loop-slot.invariant (walk_more c.args.page.now c.loop-slot.slot c.in_ok-entry.entry c.loop-slot.found c.with-found.result c.told-page (c.in_ok-entry.ensures.exact.0 refl).allowed c.loop-slot-test.true c.in_ok-entry.ensures.spelled c.loop-slot.invariant.survey c.with-found.ensures)
 
 -- the walk came to the end
 done : (c : goal.After-loop-slot) → IsOrderedSurveyOf c.args.page.now 128 c.loop-slot.found
