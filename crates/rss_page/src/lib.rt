@@ -14,4 +14,4 @@ pub use directory::{body, entry};
 pub use editing::{compact, forward_at, overwrite, own_place, put_at, put_found, remove};
 pub use entry_form::{ENTRIES, Entry};
 pub use form::{blank, has_header, survey};
-pub use surveying::{Survey, fits};
+pub use surveying::Survey;

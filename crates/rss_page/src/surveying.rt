@@ -109,12 +109,3 @@ impl Survey {
         }
     }
 }
-
-/// Whether a body of this length fits at a slot, where what the slot holds now is given up.
-pub fn fits(page: &Page, slot: u8, length: u16) -> bool
-    requires slotted { IsSlotted page.now }
-    requires slot { slot < page_entries }
-    ensures { IsTrue result ↔ HasRoom (entries page.now) slot length }
-{
-    Survey::of(page).has_room(page, slot, length)
-}

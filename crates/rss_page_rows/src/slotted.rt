@@ -4,7 +4,7 @@ ghost use Rattle.rss_base.specs.Sizes.{page_entries};
 
 use rss_base::{PAGE_BYTES, Page, PageKey, Space};
 use rss_page::{
-    Entry, Survey, blank, body, compact, entry, fits, forward_at, put_at, put_found, remove,
+    Entry, Survey, blank, body, compact, entry, forward_at, put_at, put_found, remove,
 };
 use std::marker::Model;
 
@@ -64,7 +64,7 @@ impl Slotted {
     pub(crate) fn fits(&self, slot: u8, length: u16) -> bool
         requires { slot < page_entries }
     {
-        fits(&self.page, slot, length)
+        self.survey().has_room(&self.page, slot, length)
     }
 
     /// Puts a body, where it fits, by a survey at each other slot.
