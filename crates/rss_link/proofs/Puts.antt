@@ -8,7 +8,7 @@ use Rattle.rss_base.specs.declared.key.PageKey.{PageKey}
 use Rattle.rss_base.specs.declared.tid.Tid.{Tid}
 use Rattle.rss_tuple.specs.Directory.{Bodies, with_body, is_same_tid}
 use Rattle.rss_tuple.specs.TupleSteps.{pages_for, only_tuple}
-use Rattle.rss_tuple.proofs.Inserted.{heap_key}
+use Rattle.rss_tuple.proofs.Checked.{heap_key}
 use Rattle.rss_link.specs.declared.link.Chains.{Chains}
 use Rattle.rss_base.specs.Prefixes.{Ends, parent_block}
 use Rattle.rss_base.specs.Steps.{with_bytes}

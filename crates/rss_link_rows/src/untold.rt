@@ -90,15 +90,6 @@ impl Tuples for Untold {
         Err(PageFault::Damaged(Place::Tuple(segment, tid)))
     }
 
-    fn insert(
-        &mut self,
-        _segment: u8,
-        _body: &[u8],
-        _barred: &[Tid],
-    ) -> Result<Option<Tid>, PageFault> {
-        Err(PageFault::Damaged(Place::Room))
-    }
-
     fn fetch(&mut self, _segment: u8, tid: Tid, into: &mut Body) -> Result<bool, PageFault> {
         self.fetches = self.fetches.saturating_add(1);
         if tid.page != 0 {

@@ -12,9 +12,11 @@ use Rattle.rss_base.specs.declared.fault.PageFault.{PageFault}
 use Rattle.rss_base.specs.declared.key.PageKey.{PageKey}
 use Rattle.rss_base.specs.declared.key.Space.{Space}
 use Rattle.rss_base.specs.declared.key.Space.TheVariants.{Home, Overflow}
+use Rattle.rss_base.specs.declared.tid.Tid.{Tid}
 use Rattle.rss_page.specs.Content.{Content, Empty, Forward}
 use Rattle.rss_tuple.specs.Directory.{homes, overflows, body_by}
 use Rattle.rss_tuple.specs.Heaps.{IsHeap, AreLinked}
+use Rattle.rss_tuple.specs.TupleSteps.{pages_for}
 use Rattle.rss_base.specs.Looking.{LooksStep, ChecksPages}
 use Rattle.rss_tuple.specs.Checked.{pages_of, IsSound, IsNoted}
 use Rattle.rss_tuple.specs.Looks.{LooksCall, IsNotedAt, AreAllMarked, AreSoundOverflows, IsMarked, in_front, AreSeen}
@@ -29,6 +31,11 @@ in_home segment key is = (ap (λ (k : PageKey). k.segment) is, inl (ap (λ (k : 
 
 pub in_overflow : (segment : ℕ) (key : PageKey) → pages_in segment Overflow key → pages_of segment key
 in_overflow segment key is = (ap (λ (k : PageKey). k.segment) is, inr (ap (λ (k : PageKey). k.space) is))
+
+-- a page of one tuple is one of its segment
+pub heap_key : (segment : ℕ) (tid : Tid) (key : PageKey) → pages_for segment tid key → pages_of segment key
+heap_key segment tid key (inl home_page) = (ap (λ (k : PageKey). k.segment) home_page, inl (ap (λ (k : PageKey). k.space) home_page))
+heap_key segment tid key (inr over) = (ap (λ (k : PageKey). k.segment) over, inr (ap (λ (k : PageKey). k.space) over))
 
 key_as : (segment : ℕ) (space : Space) (key : PageKey) → key.segment ≡ segment → key.space ≡ space → page_key segment space key.number ≡ key
 key_as segment space key in_segment in_space = λ i. record { segment = sym in_segment i; space = sym in_space i; number = key.number }

@@ -83,11 +83,6 @@ least_new old new segment barred tid slots mapped least = record {
 no_new : (old new : PagesView) (segment : ℕ) (barred : List Tid) → new.slots ≡ old.slots → new.mapped ≡ old.mapped → NoneIs (IsNew old segment barred) → NoneIs (IsNew new segment barred)
 no_new old new segment barred slots mapped never = λ tid is. never tid (new_same new old segment barred tid (sym slots) (sym mapped) is)
 
-chosen_same : (old new : PagesView) (segment length : ℕ) (barred : List Tid) (tid : Tid) → new.slots ≡ old.slots → new.mapped ≡ old.mapped → new.held ≡ old.held → IsChosen old segment length barred tid → IsChosen new segment length barred tid
-chosen_same old new segment length barred tid slots mapped held (in_room least) = in_room (least_same old new (home_for segment length barred) tid mapped held least)
-chosen_same old new segment length barred tid slots mapped held (on_new none least) = on_new (none_same old new mapped held (home_for segment length barred) none) (least_new old new segment barred tid slots mapped least)
-chosen_same old new segment length barred tid slots mapped held (by_entry none never least) = by_entry (none_same old new mapped held (home_for segment length barred) none) (no_new old new segment barred slots mapped never) (least_same old new (home_for segment 0 barred) tid mapped held least)
-
 -- ---- what was picked
 
 pub picked_room : (segment length : ℕ) (barred : List Tid) (bytes : List ℕ) (spot : Spot) (old new : PagesView) → IsFoundSpot old new (home_for segment length barred) bytes spot → IsKey new.slots (page_key segment Home spot.tid.page) → new.slots ≡ old.slots → IsPicked old segment length barred spot.tid
@@ -116,20 +111,6 @@ module _ (segment length : ℕ) (barred : List Tid) (old mid : PagesView) (kept 
   none_picked never no_spot = record {
     no_spot = λ told. none_same mid old (sym kept.mapped) (sym (kept.held told)) (home_for segment 0 barred) (no_spot told);
     no_new = no_new mid old segment barred (sym slots) (sym kept.mapped) never;
-  }
-
--- the same before a search that changed no page
-module _ {segment : ℕ} {barred : List Tid} {old mid : PagesView} (kept : KeepsEntries old mid) (slots : mid.slots ≡ old.slots) (told_mid : IsTold old.disk → IsTold mid.disk) where
-  pub picked_before : {length : ℕ} {tid : Tid} → IsPicked mid segment length barred tid → IsPicked old segment length barred tid
-  picked_before {length = length} {tid = tid} picked = record {
-    named = record { within = omega (arith, picked.named.within, slots); low = picked.named.low; allowed = picked.named.allowed };
-    chosen = λ told. chosen_same mid old segment length barred tid (sym slots) (sym kept.mapped) (sym (kept.held told)) (picked.chosen (told_mid told));
-  }
-
-  pub none_before : NonePicked mid segment barred → NonePicked old segment barred
-  none_before none = record {
-    no_spot = λ told. none_same mid old (sym kept.mapped) (sym (kept.held told)) (home_for segment 0 barred) (none.no_spot (told_mid told));
-    no_new = no_new mid old segment barred (sym slots) (sym kept.mapped) none.no_new;
   }
 
 -- ---- free identifiers

@@ -6,7 +6,7 @@ use Rattle.rss_base.specs.declared.key.Space.TheVariants.{Overflow}
 use Rattle.rss_page.specs.Content.{Content, Empty, Here, Forward}
 use Rattle.rss_page.specs.Slotted.{entries}
 use Rattle.rss_page.specs.Surveyed.{held_at}
-use Rattle.rss_tuple.specs.Directory.{Entries, contents_in, overflows, body_in, body_by}
+use Rattle.rss_tuple.specs.Directory.{Entries, contents_in, overflows, body_in}
 use Rattle.rss_tuple.specs.Heaps.{HasBody}
 use Rattle.rss_tuple.specs.Looks.{IsMarked, HasGood, MayHold, MayStand}
 use Rattle.rss_tuple.proofs.Seen.{some_there}
@@ -30,16 +30,6 @@ holds_moved overflow marks is_good page slot content there fresh has = record {
 
     the_body : (body : List ℕ) → Some has.body ≡ Some body → has.body ≡ body
     the_body body is = cc
-
--- a body that stands in its home entry
-pub holds_here : (overflow : Entries) (marks : List ℕ) (is_good : List ℕ → Bool) (content : Content) (body : List ℕ) → content ≡ Here body → is_good body ≡ true → MayHold overflow marks is_good content
-holds_here overflow marks is_good content body here good = record {
-  leads = λ p s is. absurd (let never : Here body ≡ Forward p s = sym here ∙ is in cc);
-  fresh = λ p s is. absurd (let never : Here body ≡ Forward p s = sym here ∙ is in cc);
-  good = λ other is.
-      let same : body ≡ other = let both : Some body ≡ Some other = sym (ap (body_by overflow) here) ∙ is in cc in
-      subst (λ (b : List ℕ). is_good b ≡ true) same good;
-}
 
 -- what the entry of a page holds
 pub content_of_page : (held : Held) (segment page slot : ℕ) (bytes : List ℕ) → held (page_key segment Overflow page) ≡ Some bytes → overflows held segment page slot ≡ held_at (entries bytes) slot

@@ -16,5 +16,4 @@ pub mod Fitting
 pub mod Walks
 pub mod Chosen
 pub mod Barred
-pub mod Inserted
 pub mod Props

@@ -193,9 +193,6 @@ tuples_more held segment page = flat_more (rows_on held segment) page
 -- ---- what a visitor saw
 
 module _ {V : Type 0} {is_good : V → List ℕ → Bool} {saw : V → Rows → Type 0} where
-  pub sees_none : (visitor : V) → Sees is_good saw visitor visitor []
-  sees_none visitor = record { rule = refl; rows = λ rows was. subst (saw visitor) (sym (append-nil rows)) was }
-
   pub sees_then : {old mid new : V} {first second : Rows} → Sees is_good saw old mid first → Sees is_good saw mid new second → Sees is_good saw old new (first ++ second)
   sees_then {new = new} {first = first} {second = second} one two = record {
     rule = two.rule ∙ one.rule;

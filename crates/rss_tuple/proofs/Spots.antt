@@ -115,23 +115,20 @@ module _ (start now : PagesView) (wanted : Wanted) (from : ℕ) (so : Searched s
     | inr later ↦ none tid.page later (may_now told tid spot)
   ]
 
-  kept_all : (new : PagesView) → KeepsEntries now new → KeepsEntries start new
-  kept_all new kept = record {
+  pub kept_too : (new : PagesView) → KeepsEntries now new → KeepsEntries start new
+  kept_too new kept = record {
     mapped = kept.mapped ∙ so.kept.mapped;
     held = λ told. kept.held (so.step.passes.leaves.told.0 told) ∙ so.kept.held told;
     changed = λ key is. so.kept.changed key (kept.changed key is);
     formed = λ told. kept.formed (so.step.passes.leaves.told.0 told);
   }
 
-  pub kept_too : (new : PagesView) → KeepsEntries now new → KeepsEntries start new
-  kept_too new kept = kept_all new kept
-
   pub searched_more : {T : Type 0} {result : Result T PageFault} (new : PagesView) (number : ℕ) → IsFirstFrom (MayDo now.mapped now.notes (wanted.length + 1) wanted.segment wanted.space) from number → KeepsEntries now new → number < start.slots → (IsTold start.disk → HasNoSpot (contents start.held (key_of wanted number)) wanted.length wanted.barred number)
       → PagesCall (only (key_of wanted number)) 1 1 now new result → Searched start new wanted (number + 1)
   searched_more new number first kept low none call = record {
     within_slots = omega arith;
     step = within (λ key there. there) (omega (arith, first.later)) (omega (arith, first.later)) (then so.step (among (is_in (key_of wanted number) refl) call.step));
-    kept = kept_all new kept;
+    kept = kept_too new kept;
     lesser = λ told tid page spot. elim (cases_eq tid.page number) [
       | inl at ↦ none told (subst (λ (n : ℕ). body_bytes (contents start.held (key_of wanted n)) + wanted.length ≤ 3056) at spot.bytes) tid.slot (subst (λ (n : ℕ). IsOpen (contents start.held (key_of wanted n)) wanted.barred (tid_at n tid.slot)) at spot.open_there)
       | inr off ↦ before number first told tid (omega (arith, off)) spot
@@ -140,14 +137,14 @@ module _ (start now : PagesView) (wanted : Wanted) (from : ℕ) (so : Searched s
 
   module _ (new : PagesView) (number : ℕ) (bytes : List ℕ) (spot : Spot) (first : IsFirstFrom (MayDo now.mapped now.notes (wanted.length + 1) wanted.segment wanted.space) from number) (kept : KeepsEntries now new) (told_new : IsTold start.disk → IsTold new.disk) (there : ReadsSpot new (key_of wanted number) bytes wanted.length wanted.barred spot) where
     same_contents : IsTold start.disk → contents start.held (key_of wanted number) ≡ entries bytes
-    same_contents told = ap (λ (h : Held). contents h (key_of wanted number)) (sym ((kept_all new kept).held told)) ∙ ap contents_in (there.read.held (told_new told))
+    same_contents told = ap (λ (h : Held). contents h (key_of wanted number)) (sym ((kept_too new kept).held told)) ∙ ap contents_in (there.read.held (told_new told))
 
     least_spot : IsTold start.disk → IsLeast (IsSpot start wanted) (tid_at number spot.tid.slot)
     least_spot told =
         let same = same_contents told in
         record {
           has = record {
-            mapped = sym (ap (λ (m : Mapped). m (key_of wanted number)) (kept_all new kept).mapped) ∙ there.read.mapped;
+            mapped = sym (ap (λ (m : Mapped). m (key_of wanted number)) (kept_too new kept).mapped) ∙ there.read.mapped;
             bytes = subst (λ (l : List Content). body_bytes l + wanted.length ≤ 3056) (sym same) there.has.bytes;
             open_there = subst (λ (l : List Content). IsOpen l wanted.barred (tid_at number spot.tid.slot)) (sym same) there.has.first.is;
           };
@@ -166,9 +163,6 @@ module _ (start now : PagesView) (wanted : Wanted) (from : ℕ) (so : Searched s
 -- the last page was looked at
 pub search_step : (start now new : PagesView) (wanted : Wanted) (from number : ℕ) → Searched start now wanted from → from ≤ number → number < start.slots → PagesStep (only (key_of wanted number)) 1 1 now new → PagesStep (pages_in wanted.segment wanted.space) start.slots start.slots start new
 search_step start now new wanted from number so later low step = within (λ key there. there) (omega arith) (omega arith) (then so.step (among (is_in (key_of wanted number) refl) step))
-
-pub search_ends : (start now : PagesView) (wanted : Wanted) (from : ℕ) → Searched start now wanted from → PagesStep (pages_in wanted.segment wanted.space) start.slots start.slots start now
-search_ends start now wanted from so = within (λ key there. there) so.within_slots so.within_slots so.step
 
 pub search_fails : {T U : Type 0} {fault : PageFault} (start now new : PagesView) (wanted : Wanted) (from number : ℕ) (result : Result U PageFault) → IsErrAnd result (λ why. why ≡ fault) → Searched start now wanted from → from ≤ number → number < start.slots → PagesCall {T = T} (only (key_of wanted number)) 1 1 now new (Err fault) → PagesCall (pages_in wanted.segment wanted.space) start.slots start.slots start new result
 search_fails start now new wanted from number result is so later low call = fails result is (λ key there. there) (omega arith) (omega arith) (then_call {asks_then = 1} {outs_then = 1} so.step (widens (is_in (key_of wanted number) refl) (omega arith) (omega arith) call))

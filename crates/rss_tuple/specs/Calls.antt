@@ -1,5 +1,5 @@
 -- What the calls on tuples may be given, and what those that put or choose ensure.
-use Rattle.std.specs.Prelude.{◌≡◌, ◌⊎◌, ℕ, ◌+◌, ◌*◌, ◌<◌, ◌≤◌, true, false, List, length, Option, Some, None, MatchOption, Result, Ok, Err, IfOk, IfSome, OnOk}
+use Rattle.std.specs.Prelude.{◌≡◌, ◌⊎◌, ℕ, ◌*◌, ◌<◌, ◌≤◌, false, List, length, Option, Some, None, Result, Err, IfOk, IfSome, OnOk}
 use Rattle.rss_base.specs.DiskRule.{IsTold}
 use Rattle.rss_base.specs.Paged.{AreAmong, page_key}
 use Rattle.rss_base.specs.Sizes.{segments, page_entries}
@@ -7,13 +7,11 @@ use Rattle.rss_base.specs.Steps.{pages_in}
 use Rattle.rss_base.specs.declared.fault.PageFault.{PageFault}
 use Rattle.rss_base.specs.declared.fault.PageFault.TheVariants.{Damaged}
 use Rattle.rss_base.specs.declared.place.Place.TheVariants.{Page as PagePlace}
-use Rattle.rss_base.specs.declared.key.PageKey.{PageKey}
 use Rattle.rss_base.specs.declared.key.Space.TheVariants.{Home}
 use Rattle.rss_base.specs.declared.tid.Tid.{Tid}
 use Rattle.rss_tuple.specs.Directory.{with_body, homes}
 use Rattle.rss_tuple.specs.Heaps.{body_most, AreHeaps}
-use Rattle.rss_tuple.specs.TupleSteps.{TuplesView, Tuples, TuplesCall, IsLive, NoneIs, no_tuple, only_tuple, pages_for}
-use Rattle.rss_tuple.specs.Checked.{pages_of}
+use Rattle.rss_tuple.specs.TupleSteps.{TuplesView, TuplesCall, IsLive, NoneIs, no_tuple, only_tuple, pages_for}
 use Rattle.rss_tuple.specs.Placing.{IsNameable, IsFree, IsChosen, IsPlaced, TakesOne}
 
 -- ---- what they may be given
@@ -92,39 +90,3 @@ pub record PutsTuple {T : Type 0} (segment : ℕ) (tid : Tid) (body : List ℕ) 
   pub placed : OnOk result (IsTold old.pages.disk → IsPlaced old.pages segment tid body (homes new.pages.held segment tid.page tid.slot))
   pub takes : OnOk result (TakesOne segment tid body old.pages new.pages)
   pub did : TuplesCall (pages_for segment tid) (only_tuple segment tid) cost old new result
-
--- ---- a tuple that is put where the rule says
-
--- the tuple that was put, by what was answered
-abbrev pub tuple_put : ℕ → Result (Option Tid) PageFault → Tuples
-tuple_put segment (Ok (Some tid)) = only_tuple segment tid
-tuple_put segment (Ok None) = no_tuple
-tuple_put segment (Err e) = no_tuple
-
--- A tuple with this body was put at the identifier that the rule names, where no tuple was, and stands where it is to be.
-pub record InsertsAt (segment : ℕ) (body : List ℕ) (barred : List Tid)
-    (old new : TuplesView) (tid : Tid) : Type 0 where
-  pub named : IsNameable old.pages.slots barred tid
-  pub free : IsTold old.pages.disk → IsFree old segment barred tid
-  pub chosen : IsTold old.pages.disk → IsChosen old.pages segment (length body) barred tid
-  pub put : IsTold old.pages.disk → new.bodies ≡ with_body old.bodies segment tid (Some body)
-  pub placed : IsTold old.pages.disk
-      → IsPlaced old.pages segment tid body (homes new.pages.held segment tid.page tid.slot)
-  pub takes : TakesOne segment tid body old.pages new.pages
-  pub changed : (key : PageKey) → new.pages.changed key ≡ true
-      → (old.pages.changed key ≡ true) ⊎ pages_for segment tid key
-
--- No identifier is free, and no page has changed.
-pub record InsertsNone (segment : ℕ) (barred : List Tid) (old new : TuplesView) : Type 0 where
-  pub none : IsTold old.pages.disk → NoneIs (IsFree old segment barred)
-  pub mapped : new.pages.mapped ≡ old.pages.mapped
-  pub held : IsTold old.pages.disk → new.pages.held ≡ old.pages.held
-  pub changed : AreAmong new.pages.changed old.pages.changed
-
--- A new tuple was put, or none could be: one of the two, by what was answered. At most this tuple and pages of its segment were touched.
-pub record Inserts (segment : ℕ) (body : List ℕ) (barred : List Tid)
-    (old new : TuplesView) (result : Result (Option Tid) PageFault) : Type 0 where
-  pub inserts : IfOk result (λ found. MatchOption found
-      (InsertsNone segment barred old new) (InsertsAt segment body barred old new))
-  pub did : TuplesCall (pages_of segment) (tuple_put segment result) (4 * old.pages.slots + 4)
-      old new result

@@ -1,5 +1,5 @@
 -- What is found of a tuple in pages.
-use Rattle.std.specs.Prelude.{◌≡◌, ◌⊎◌, ℕ, ◌<◌, ◌≤◌, Bool, true, false, List, length, Option, None, Some, MatchOption}
+use Rattle.std.specs.Prelude.{◌≡◌, ◌⊎◌, ℕ, ◌<◌, ◌≤◌, Bool, true, false, List, length, Option, MatchOption}
 use Rattle.rss_base.specs.Sizes.{page_entries}
 use Rattle.rss_base.specs.declared.tid.Tid.{Tid}
 use Rattle.rss_page.specs.Content.{Content, Empty, Here, Forward}

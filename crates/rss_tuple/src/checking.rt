@@ -101,8 +101,6 @@ fn look_at_homes<P: Pages, V: Visitor>(
         (pages_in segment Home) (129 * (P.view pages.old).slots)
         (P.view pages.old) (P.view pages.new) result }
 {
-    // Numbers of pages are below this, so the one behind each is a number too.
-    let _slots = pages.slots();
     let mut from = 0;
     while let Some(number) = pages.first_mapped(segment, Space::Home, from) {
         look_at_home(pages, segment, number, led, visitor)?;
@@ -281,8 +279,6 @@ fn look_at_overflows<P: Pages>(pages: &mut P, segment: u8, led: &[u128]) -> Resu
         (pages_in segment Overflow) (P.view pages.old).slots
         (P.view pages.old) (P.view pages.new) result }
 {
-    // Numbers of pages are below this, so the one behind each is a number too.
-    let _slots = pages.slots();
     let mut from = 0;
     while let Some(number) = pages.first_mapped(segment, Space::Overflow, from) {
         look_at_overflow(pages, segment, number, led[number as usize])?;

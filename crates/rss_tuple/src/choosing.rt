@@ -21,8 +21,6 @@ fn first_new<P: Pages>(pages: &P, segment: u8, barred: &[Tid]) -> Option<Tid>
     ensures { MatchOption result (NoneIs (IsNew (P.view pages.now) segment barred.now))
         (IsLeast (IsNew (P.view pages.now) segment barred.now)) }
 {
-    // Numbers of pages are below this, so the one behind each is a number too.
-    let _slots = pages.slots();
     let mut from = 0;
     while let Some(number) = pages.first_unmapped(segment, Space::Home, from) {
         let page = blank(home(segment, number));

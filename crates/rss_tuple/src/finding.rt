@@ -151,8 +151,6 @@ pub(crate) fn find_page<P: Pages>(
     ensures did { PagesCall (pages_in segment space) (P.view pages.old).slots
         (P.view pages.old).slots (P.view pages.old) (P.view pages.new) result }
 {
-    // Numbers of pages are below this, so the one behind each is a number too.
-    let _slots = pages.slots();
     let mut from = 0;
     while let Some(number) = pages.first_noted(segment, space, from, length + 1) {
         let key = PageKey {

@@ -5,7 +5,6 @@ mod checking;
 mod choosing;
 mod entries;
 mod finding;
-mod inserting;
 mod keys;
 mod placing;
 mod reading;

@@ -4,7 +4,6 @@ ghost use Rattle.std.specs.Prelude.{◌≡◌};
 ghost use Rattle.rss_tuple.specs.TupleSteps.{tuples_in};
 
 use crate::choosing::choose;
-use crate::inserting::insert;
 use crate::placing::{insert_at, remove, replace};
 use crate::reading::fetch;
 use crate::tuples::Tuples;
@@ -15,8 +14,8 @@ use rss_base::{Body, PAGE_BYTES, Page, PageFault, Pages, Tid};
 #[derive(Drop)]
 pub struct Store<P: Pages> {
     pub pages: P,
-    /// Where a page is copied in which a tuple is to be put. It is kept, since a new one would be
-    /// zeroed for each tuple.
+    /// Where a search copies the page that it finds. It is kept, since a new one would be zeroed for
+    /// each tuple.
     page: Page,
 }
 
@@ -61,15 +60,6 @@ impl<P: Pages> Tuples for Store<P> {
 
     fn insert_at(&mut self, segment: u8, tid: Tid, body: &[u8]) -> Result<(), PageFault> {
         insert_at(&mut self.pages, segment, tid, body)
-    }
-
-    fn insert(
-        &mut self,
-        segment: u8,
-        body: &[u8],
-        barred: &[Tid],
-    ) -> Result<Option<Tid>, PageFault> {
-        insert(&mut self.pages, &mut self.page, segment, body, barred)
     }
 
     fn fetch(&mut self, segment: u8, tid: Tid, into: &mut Body) -> Result<bool, PageFault> {

@@ -1,5 +1,5 @@
 // Tuples by their segments and identifiers.
-ghost use Rattle.std.specs.Prelude.{◌≡◌, ◌+◌, ◌<◌, length, None, IsTrue, IfOk, IfSome, OnOk};
+ghost use Rattle.std.specs.Prelude.{◌≡◌, ◌+◌, length, None, IsTrue, IfOk, IfSome, OnOk};
 ghost use Rattle.rss_base.specs.DiskRule.{IsTold};
 ghost use Rattle.rss_base.specs.Steps.{no_page};
 ghost use Rattle.rss_tuple.specs.Directory.{bodies_of, with_body};
@@ -10,7 +10,7 @@ ghost use Rattle.rss_tuple.specs.Finding.{IsFetched, FindsNext};
 ghost use Rattle.rss_tuple.specs.Placing.{TakesOnly};
 ghost use Rattle.rss_tuple.specs.Calls.{IsSegment, IsBodyLength, MayPut, MayInsert, HasTuple, MayReplace};
 ghost use Rattle.rss_tuple.specs.Calls.{IsNoLonger, IsNowhere, damaged_home};
-ghost use Rattle.rss_tuple.specs.Calls.{Chooses, PutsTuple, Inserts};
+ghost use Rattle.rss_tuple.specs.Calls.{Chooses, PutsTuple};
 
 use rss_base::{Body, PageFault, Tid};
 
@@ -36,14 +36,6 @@ pub trait Tuples {
         requires { MayInsert (view self.old) segment tid (length body.now) }
         ensures { PutsTuple segment tid body.now ((view self.old).pages.slots + 4)
             (view self.old) (view self.new) result };
-
-    /// Puts a tuple with this body at the identifier that `choose` names, and answers it. None
-    /// exactly where there is none, and then no tuple and no page has changed.
-    fn insert(&mut self, segment: u8, body: &[u8], barred: &[Tid]) -> Result<Option<Tid>, PageFault>
-        requires may { MayPut segment (length body.now) }
-        requires room { 0 < (view self.old).pages.spare }
-        requires heaps { IsTold (view self.old).pages.disk → AreHeaps (view self.old).pages }
-        ensures { Inserts segment body.now barred.now (view self.old) (view self.new) result };
 
     /// Finds out whether a tuple stands at an identifier, and if so, copies its body. Asks for two
     /// pages at most.

@@ -108,8 +108,6 @@ pub(crate) fn next_live<P: Pages>(
     ensures did { PagesCall no_page (P.view pages.old).slots (P.view pages.old).slots
         (P.view pages.old) (P.view pages.new) result }
 {
-    // Numbers of pages are below this, so the one behind each is a number too.
-    let _slots = pages.slots();
     let mut from = start_of(after);
     while let Some(number) = pages.first_mapped(segment, Space::Home, from.page) {
         let low = slot_in(from, number);

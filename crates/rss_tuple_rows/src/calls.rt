@@ -84,17 +84,6 @@ pub(crate) fn insert_at(store: &mut Tried, tid: Tid, body: &[u8]) -> Result<(), 
 }
 
 #[tactic(auto, using(rss_images::specs::Silent::never_told))]
-pub(crate) fn insert(store: &mut Tried, body: &[u8]) -> Result<Option<Tid>, Undone> {
-    if !is_body(body) {
-        return Err(Undone::Refused("no body of a tuple"));
-    }
-    if store.pages.spare() == 0 {
-        return Err(Undone::Refused("no page is spare"));
-    }
-    Ok(store.insert(SEGMENT, body, &[])?)
-}
-
-#[tactic(auto, using(rss_images::specs::Silent::never_told))]
 pub(crate) fn replace(store: &mut Tried, tid: Tid, body: &[u8]) -> Result<(), Undone> {
     if !is_body(body) {
         return Err(Undone::Refused("no body of a tuple"));

@@ -1,7 +1,7 @@
 // Tuples that are put, replaced and taken away at random, beside the same in plain lists.
 use crate::calls::{
-    SLOTS, Tried, choose, empty, entries_of, entry_at, fetch, insert, insert_at, key_of, next_live,
-    remove, replace, tid,
+    SLOTS, Tried, choose, empty, entries_of, entry_at, fetch, insert_at, key_of, next_live, remove,
+    replace, tid,
 };
 use crate::plain::{Held, Plain};
 use rss_asserts::{Draws, assert_same, assert_same_slices};
@@ -77,25 +77,17 @@ impl Beside {
         Some(draws.below(count) as usize)
     }
 
-    /// Puts a tuple where it is to stand: half of them by `insert`, the others by `choose` and
-    /// `insert_at`.
+    /// Puts a tuple where it is to stand.
     fn insert(&mut self, draws: &mut Draws) -> Result<Option<Tid>, Fail> {
         let length = draw_length(draws);
         let first = draws.below(256) as u8;
         let mut bytes = [0u8; 2400];
         fill(&mut bytes, first);
         let body = bytes.get(..usize::from(length)).ok_or("too long a body")?;
-        let at_once = first < 128;
-        let found = if at_once {
-            insert(&mut self.store, body)?
-        } else {
-            choose(&mut self.store, length, &[])?
-        };
+        let found = choose(&mut self.store, length, &[])?;
         assert_same(&found, &self.plain.choose(length, &[]), length)?;
         let Some(at) = found else { return Ok(None) };
-        if !at_once {
-            insert_at(&mut self.store, at, body)?;
-        }
+        insert_at(&mut self.store, at, body)?;
         self.plain.put(at, length, first)?;
         self.live.push(at)?;
         Ok(Some(at))

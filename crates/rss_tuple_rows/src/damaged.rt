@@ -1,8 +1,8 @@
 // Pages that aren't what they should be, where the device doesn't tell: each call answers with the
 // place.
 use crate::calls::{
-    Tried, Undone, choose, empty, fetch, insert, insert_at, key_of, next_live, put_home,
-    put_overflow, remove, replace, tid,
+    Tried, Undone, choose, empty, fetch, insert_at, key_of, next_live, put_home, put_overflow,
+    remove, replace, tid,
 };
 use rss_asserts::assert_same;
 use rss_base::{Body, Page, PageFault, Pages, Place, Space, Tid};
@@ -88,7 +88,6 @@ fn a_page_that_isnt_well_formed_is_told(rt: HostRuntime) -> Result<(), Fail> {
     let mut store = store_with(rt.alloc(), &home)?;
     assert_same(&fetched(&mut store), &Err(want), "fetch")?;
     assert_same(&choose(&mut store, 9, &[]), &Err(want), "choose")?;
-    assert_same(&insert(&mut store, &[7]), &Err(want), "insert")?;
     assert_same(
         &insert_at(&mut store, tid(3, 2), &[7]),
         &Err(want),

@@ -1,6 +1,6 @@
 use Rattle.std.proofs.Common.{arith}
 use Rattle.rss_base.proofs.Steps.{widens}
-use Rattle.rss_tuple.proofs.Inserted.{heap_key}
+use Rattle.rss_tuple.proofs.Checked.{heap_key}
 use Rattle.rss_access.proofs.TupleChanges.{changes_removed}
 use Rattle.rss_access.proofs.tuples.delete.Goals as goal
 

@@ -1,6 +1,6 @@
 use Rattle.std.proofs.Common.{arith}
 use Rattle.rss_base.proofs.Steps.{widens}
-use Rattle.rss_tuple.proofs.Inserted.{heap_key}
+use Rattle.rss_tuple.proofs.Checked.{heap_key}
 use Rattle.rss_access.proofs.TupleChanges.{longer_new, longer_ok, changes_put}
 use Rattle.rss_access.proofs.tuples.put_at.Goals as goal
 

@@ -24,7 +24,7 @@ taken_in-requires-clause-formed g c = formed_after c.loop-number.invariant.step 
 pub overflow_add-from : goal.overflow_add-from
 overflow_add-from g c =
     let below = low g (goal.at.overflow_add-from g c).In-Some in
-    omega (arith, below, c.slots-slots.ensures, c.slots-slots.type_inv)
+    omega (arith, below, g.met.P.Pages.few_slots c.args.pages.now)
 
 pub loop-number-preserved : goal.loop-number-preserved
 loop-number-preserved g c =
