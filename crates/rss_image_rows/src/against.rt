@@ -2,9 +2,9 @@
 use crate::calls::{Tried, after, create, destroy, empty, insert, remove, seek};
 use crate::pairs::{Code, code_of};
 use crate::tested::{Tested, test_pages};
-use rss_asserts::{Draws, assert_same};
 use rss_base::Pages;
 use rss_image::Image;
+use rss_images::{Draws, assert_same};
 use std::alloc::Global;
 use std::test::Fail;
 

@@ -1,9 +1,9 @@
 // The pages of an image, tested by the form of a node and of a tree.
 use crate::calls::{SLOTS, Tried};
 use crate::pairs::{Code, FILLING};
-use rss_asserts::{assert_same, assert_same_slices};
 use rss_base::{PAGE_BYTES, Page, PageKey, Pages, Space};
 use rss_image::Image;
+use rss_images::{assert_same, assert_same_slices};
 use std::alloc::{AllocError, Global};
 use std::test::Fail;
 

@@ -2,7 +2,7 @@
 use crate::calls::{create, empty, insert};
 use crate::pairs::{Code, code_of};
 use crate::tested::{Tested, most, test_pages};
-use rss_asserts::assert_same;
+use rss_images::assert_same;
 use std::alloc::Global;
 use std::test::Fail;
 

@@ -2,7 +2,7 @@
 use crate::calls::{NO_ENDS, backwards, connect, disconnect, forwards, place_of, tid};
 use crate::links::{DEPARTMENT, EMPLOYEE, MEMBER, QUEUE, WORKS};
 use crate::untold::Untold;
-use rss_asserts::{assert_same, assert_same_slices};
+use rss_images::{assert_same, assert_same_slices};
 use rss_link::{Chains, Ends};
 use std::alloc::Global;
 use std::test::Fail;

@@ -2,7 +2,7 @@
 use crate::calls::{NO_ENDS, check, tid};
 use crate::links::{QUEUE, WORKS};
 use crate::untold::Untold;
-use rss_asserts::assert_same;
+use rss_images::assert_same;
 use rss_link::{Ends, Relations};
 use std::test::Fail;
 

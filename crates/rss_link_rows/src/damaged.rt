@@ -2,8 +2,8 @@
 use crate::calls::{NO_ENDS, connect, disconnect, place_of, tid};
 use crate::links::{DEPARTMENT, EMPLOYEE, MEMBER, QUEUE, WORKS};
 use crate::untold::Untold;
-use rss_asserts::assert_same;
 use rss_base::{PageFault, Place};
+use rss_images::assert_same;
 use rss_link::Chains;
 use std::test::Fail;
 

@@ -2,7 +2,7 @@
 use crate::calls::{NO_ENDS, connect, disconnect};
 use crate::links::WORKS;
 use crate::untold::Untold;
-use rss_asserts::assert_same_slices;
+use rss_images::assert_same_slices;
 use std::alloc::Global;
 use std::test::Fail;
 

@@ -1,9 +1,8 @@
 // The log over a device, as it runs.
 use crate::harness::{append, body_of, bytes_of, load, piece, set_head, try_at};
-use rss_asserts::{Draws, assert_same, assert_same_slices, assert_some};
 use rss_base::{Body, Change, Device, LogRecord, Marks, OpenFault, Page, Tail, Tid};
 use rss_device::MemDevice;
-use rss_images::{failing_at, filled_pages};
+use rss_images::{Draws, assert_same, assert_same_slices, assert_some, failing_at, filled_pages};
 use rss_log::Log;
 use std::alloc::Global;
 use std::collections::VecDeque;

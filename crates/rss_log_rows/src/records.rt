@@ -1,7 +1,7 @@
 // The bytes of records.
 use crate::harness::{body_of, bytes_of};
-use rss_asserts::{assert_same, assert_same_slices, assert_some};
 use rss_base::{Change, LogRecord, Marks, Tid};
+use rss_images::{assert_same, assert_same_slices, assert_some};
 use rss_record::read_record;
 use std::alloc::Global;
 use std::test::Fail;

@@ -1,6 +1,6 @@
 // Pages that are not as they should be, each of one kind.
-use rss_asserts::assert_same;
 use rss_base::{PAGE_BYTES, Page, PageKey, Space};
+use rss_images::assert_same;
 use rss_page::survey;
 use std::test::Fail;
 

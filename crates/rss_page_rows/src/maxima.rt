@@ -1,5 +1,5 @@
 // Numbers that are found by their size, against a plain scan.
-use rss_asserts::{Draws, assert_same};
+use rss_images::{Draws, assert_same};
 use rss_notes::{Maxima, NUMBERS_MOST};
 use std::test::Fail;
 

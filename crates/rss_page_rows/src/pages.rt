@@ -1,7 +1,7 @@
 // Pages that are filled, emptied and filled again, against a plain list.
 use crate::plain::{Held, Plain, assert_holds, byte_at, bytes_of, has_room};
 use crate::slotted::{ENTRIES, Slotted};
-use rss_asserts::{Draws, assert_same};
+use rss_images::{Draws, assert_same};
 use std::test::Fail;
 
 /// The bytes of the longest body.

@@ -1,6 +1,6 @@
 // What a page holds, as a plain list.
 use crate::slotted::{ENTRIES, KEY, Slotted};
-use rss_asserts::assert_same;
+use rss_images::assert_same;
 use rss_page::{Entry, survey};
 use std::test::Fail;
 

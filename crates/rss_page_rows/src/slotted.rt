@@ -3,9 +3,7 @@ ghost use Rattle.std.specs.Prelude.{◌<◌};
 ghost use Rattle.rss_base.specs.Sizes.{page_entries};
 
 use rss_base::{PAGE_BYTES, Page, PageKey, Space};
-use rss_page::{
-    Entry, Survey, blank, body, compact, entry, forward_at, put_at, put_found, remove,
-};
+use rss_page::{Entry, Survey, blank, body, compact, entry, forward_at, put_at, put_found, remove};
 use std::marker::Model;
 
 /// How many entries a page has.

@@ -1,11 +1,10 @@
 // Pages over a device and in memory, as they run.
 use crate::caller::keep;
 use crate::harness::{first_root, home, is_half_free, page_at, pages_with_root};
-use rss_asserts::{assert_same, assert_same_slices};
 use rss_base::{Page, PageFault, PageKey, Pages, Space, log_at};
 use rss_buffer::{Buffer, Saving, Stage};
 use rss_device::{MemDevice, MemPages, Unsynced};
-use rss_images::{UNSYNCED, copy_of_pages, failing_at, image_at};
+use rss_images::{UNSYNCED, assert_same, assert_same_slices, copy_of_pages, failing_at, image_at};
 use rss_pagemap::read_table;
 use rss_root::load;
 use std::alloc::Global;

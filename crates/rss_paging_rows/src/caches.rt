@@ -1,8 +1,8 @@
 // Which page leaves memory, beside a map of the kit's that is ordered by recency.
 use lru::LruCache;
-use rss_asserts::{Draws, assert_same};
 use rss_base::{PageKey, Space};
 use rss_frames::Frames;
+use rss_images::{Draws, assert_same};
 use std::alloc::Global;
 use std::num::NonZeroUsize;
 use std::test::Fail;

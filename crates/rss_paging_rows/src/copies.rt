@@ -1,8 +1,8 @@
 // Bytes that are copied from one page into another.
 use crate::buffers::{Undone, empty, read, write};
-use rss_asserts::{Draws, assert_same};
 use rss_base::{PAGE_BYTES, Page, PageKey, Pages, Space};
 use rss_device::MemPages;
+use rss_images::{Draws, assert_same};
 use std::fmt::Debug;
 use std::test::Fail;
 

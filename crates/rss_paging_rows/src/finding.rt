@@ -4,10 +4,10 @@ use crate::buffers::{
     page_of, write,
 };
 use crate::harness::{home, key_of};
-use rss_asserts::assert_same;
 use rss_base::{Page, PageKey, Pages, Space};
 use rss_buffer::Saving;
 use rss_device::{MemDevice, MemPages};
+use rss_images::assert_same;
 use std::alloc::Global;
 use std::test::Fail;
 

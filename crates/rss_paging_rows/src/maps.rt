@@ -3,10 +3,9 @@ use crate::harness::{
     first_root, key_of, load_table, others_from, page_at, pages_with_root, put_entry, small_store,
     switch_from, write_to,
 };
-use rss_asserts::{assert_same, assert_same_slices};
 use rss_base::{Device, Failed, OpenFault, Page, PageKey, Place, Space};
 use rss_device::MemDevice;
-use rss_images::{failing_at, filled_pages, turn};
+use rss_images::{assert_same, assert_same_slices, failing_at, filled_pages, turn};
 use rss_pagemap::SlotTable;
 use std::alloc::Global;
 use std::test::Fail;

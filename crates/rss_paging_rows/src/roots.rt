@@ -2,10 +2,11 @@
 use crate::harness::{
     SMALL_PAGES, first_root, others_from, pages_with_root, small_store, switch_from,
 };
-use rss_asserts::{assert_same, assert_same_slices};
 use rss_base::{Device, Failed, OpenFault, Page, Place, Root, Tail, VERSION};
 use rss_device::{MemDevice, Unsynced};
-use rss_images::{UNSYNCED, copy_of_pages, failing_at, image_at, turn};
+use rss_images::{
+    UNSYNCED, assert_same, assert_same_slices, copy_of_pages, failing_at, image_at, turn,
+};
 use rss_root::{decode, encode, load};
 use std::alloc::Global;
 use std::test::Fail;

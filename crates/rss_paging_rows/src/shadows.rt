@@ -2,9 +2,9 @@
 use crate::harness::{
     Counts, Firsts, Maps, home, key_of, load_table, no_pages, put_entry, shadow_of, small_store,
 };
-use rss_asserts::{assert_other, assert_same};
 use rss_base::{Device, Page, Space};
 use rss_device::MemDevice;
+use rss_images::{assert_other, assert_same};
 use rss_shadow::Shadow;
 use std::alloc::Global;
 use std::test::Fail;

@@ -2,7 +2,7 @@
 use crate::logs::Step::{Checkpoint, End, Join, Leave, Put};
 use crate::logs::{Step, Written};
 use crate::stores::{Tried, block, is_body, restarted_store};
-use rss_asserts::assert_same;
+use rss_images::assert_same;
 use std::alloc::Global;
 use std::test::Fail;
 

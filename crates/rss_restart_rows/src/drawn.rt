@@ -1,7 +1,7 @@
 // Logs at random.
 use crate::logs::{Step, TUPLES, Written};
 use crate::stores::restarted;
-use rss_asserts::{Draws, assert_same};
+use rss_images::{Draws, assert_same};
 use std::test::Fail;
 
 /// How many logs there are, and how many steps each of them has.

@@ -2,7 +2,7 @@
 use crate::logs::Step::{Abort, Back, Checkpoint, End, Put};
 use crate::logs::{Step, TUPLES, Written, set};
 use crate::stores::restarted;
-use rss_asserts::assert_same;
+use rss_images::assert_same;
 use std::alloc::Global;
 use std::test::Fail;
 

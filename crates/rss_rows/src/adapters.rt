@@ -1,12 +1,11 @@
 // Devices, sources, sinks and lists as they run.
 ghost use Rattle.std.specs.Prelude.{◌≡◌, ◌<◌};
 
-use rss_asserts::{assert_same, assert_same_slices};
 use rss_base::{Device, Failed, Page, Sink, Source, Text, Tuple, Value, write_all};
 use rss_device::{
     FileDevice, MemDevice, MemSink, MemSource, ReaderSource, StoreFiles, Unsynced, WriterSink,
 };
-use rss_images::image_at;
+use rss_images::{assert_same, assert_same_slices, image_at};
 use std::alloc::Global;
 use std::rt::Files;
 use std::test::Fail;

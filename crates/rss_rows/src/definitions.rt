@@ -1,6 +1,6 @@
 // Lines that define segments, relations and images, and that take them away, as they are read.
-use rss_asserts::{assert_same, assert_same_slices};
 use rss_base::{Call, FieldDef, FieldKind, Name};
+use rss_images::{assert_same, assert_same_slices};
 use rss_line::{LINE_LIMIT, Line, LineFault, Names, read_line};
 use std::alloc::Global;
 use std::test::Fail;

@@ -3,9 +3,9 @@ ghost use Rattle.std.specs.Prelude.{◌<◌};
 ghost use Rattle.rss_stored.specs.Calls.{calls_most};
 
 use crate::harness::{SMALL, store_with_r};
-use rss_asserts::assert_same;
 use rss_base::{Call, CallError, Name, Reply, Tid, Tuple, Value};
 use rss_buffer::Saving;
+use rss_images::assert_same;
 use rss_rsi::{LEAST_FRAMES, MOST_FRAMES, Rss, open};
 use rss_stored::{CALLS_MOST, Engine};
 use std::alloc::Global;

@@ -3,9 +3,9 @@ ghost use Rattle.std.specs.Prelude.{◌≤◌, None, true, IfOk};
 
 use crate::adapters::{assert_three, has_three, new_path, write_three};
 use crate::harness::NEVER;
-use rss_asserts::assert_same;
 use rss_base::{Device, Failed};
 use rss_device::{FileDevice, StoreFile, StoreFiles};
+use rss_images::assert_same;
 use std::cell::Cell;
 use std::fs::File;
 use std::io::ErrorKind;

@@ -1,8 +1,7 @@
 // Devices that are made stores.
 use crate::harness::{UNDEFINED, assert_probe, assert_untouched, has_writes, store_with_tuple};
-use rss_asserts::{assert_same, assert_same_slices};
 use rss_device::{MemDevice, MemSink, MemSource};
-use rss_images::failing_at;
+use rss_images::{assert_same, assert_same_slices, failing_at};
 use rss_scripts::{format_device, run_words};
 use rss_top::Status;
 use std::alloc::Global;

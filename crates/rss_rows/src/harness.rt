@@ -1,8 +1,7 @@
 // Stores in memory, and what they answer.
-use rss_asserts::{assert_same, assert_same_slices};
 use rss_base::{Device, Page, Source};
 use rss_device::{MemDevice, MemSink, MemSource};
-use rss_images::copy_of_pages;
+use rss_images::{assert_same, assert_same_slices, copy_of_pages};
 use rss_scripts::{format_device, run_script, run_words, without_moments};
 use rss_top::Status;
 use std::alloc::Global;

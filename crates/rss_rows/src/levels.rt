@@ -1,9 +1,9 @@
 // How many levels an image has while its tuples come and go, and how many pages there are.
 use crate::harness::{empty_store, store_after};
 use crate::lines::{write_inserts, write_lines, write_texts};
-use rss_asserts::assert_same;
 use rss_base::Name;
 use rss_device::MemDevice;
+use rss_images::assert_same;
 use rss_rsi::{MOST_FRAMES, open};
 use rss_scripts::without_moments;
 use std::alloc::Global;

@@ -1,8 +1,8 @@
 // A chain of 10,000 tuples, each connected in a spot of its own and taken out again.
 use crate::harness::{Row, WHOLE, assert_script, empty_store, store_after};
 use crate::lines::write_lines;
-use rss_asserts::assert_same;
 use rss_device::MemDevice;
+use rss_images::assert_same;
 use rss_rsi::{MOST_FRAMES, open};
 use rss_scripts::without_moments;
 use std::alloc::Global;

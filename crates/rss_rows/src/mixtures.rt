@@ -1,9 +1,8 @@
 // A restart that finds transactions of every kind in the log.
 use crate::harness::{Row, SMALL, WHOLE, assert_script, has_writes, store_with_r};
-use rss_asserts::assert_same;
 use rss_base::Page;
 use rss_device::{MemDevice, Unsynced};
-use rss_images::{UNSYNCED, copy_of_pages, image_at};
+use rss_images::{UNSYNCED, assert_same, copy_of_pages, image_at};
 use rss_scripts::run_script;
 use std::alloc::Global;
 use std::test::Fail;

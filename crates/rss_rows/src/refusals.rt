@@ -3,10 +3,9 @@ use crate::harness::{
     ABSENT, PRESENT, PROBE, SMALL, UNDEFINED, empty_store, has_writes, store_with_chain,
     store_with_image, store_with_log, store_with_tuple,
 };
-use rss_asserts::assert_same;
 use rss_base::{Page, PageKey, Place, Source, Space, Tid};
 use rss_device::{MemDevice, MemSink, MemSource};
-use rss_images::{copy_of_pages, filled_pages, turn};
+use rss_images::{assert_same, copy_of_pages, filled_pages, turn};
 use rss_scripts::run_words;
 use rss_top::Status;
 use std::alloc::Global;

@@ -3,9 +3,8 @@ ghost use Rattle.std.specs.Prelude.{◌<◌};
 
 use crate::harness::{Row, SMALL, WHOLE, assert_script, empty_store, store_after};
 use crate::lines::write_lines;
-use rss_asserts::{assert_same, assert_same_slices};
 use rss_device::MemDevice;
-use rss_images::{UNSYNCED, image_at};
+use rss_images::{UNSYNCED, assert_same, assert_same_slices, image_at};
 use rss_scripts::{run_script, without_moments};
 use std::alloc::Global;
 use std::fmt::Write;

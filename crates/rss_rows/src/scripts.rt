@@ -1,8 +1,8 @@
 // Lines that are no call, and scripts that write. Scripts with their replies are those of
 // `rss_examples`.
 use crate::harness::{Row, SMALL, WHOLE, assert_script, has_writes, store_after, store_with_r};
-use rss_asserts::assert_same;
 use rss_device::MemDevice;
+use rss_images::assert_same;
 use rss_scripts::{run_script, without_moments};
 use rss_top::Status;
 use std::alloc::Global;

@@ -1,7 +1,7 @@
 // How a run ends, and what it leaves.
 use crate::harness::{ABSENT, NEVER, PRESENT, SMALL, assert_probe, assert_untouched, store_with_r};
-use rss_asserts::{assert_same, assert_same_slices};
 use rss_device::{MemDevice, MemSink, MemSource};
+use rss_images::{assert_same, assert_same_slices};
 use rss_scripts::run_words;
 use rss_top::Status;
 use std::alloc::Global;

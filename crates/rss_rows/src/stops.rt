@@ -1,9 +1,8 @@
 // Stops in the middle of a run, and the tables that an opening finds after them.
 use crate::harness::{Row, SMALL, WHOLE, assert_script, has_writes, store_with_r};
-use rss_asserts::{assert_same, assert_same_slices};
 use rss_base::Page;
 use rss_device::{MemDevice, Unsynced};
-use rss_images::{UNSYNCED, copy_of_pages, failing_at, image_at};
+use rss_images::{UNSYNCED, assert_same, assert_same_slices, copy_of_pages, failing_at, image_at};
 use rss_scripts::{run_script, without_moments};
 use rss_top::Status;
 use std::alloc::Global;

@@ -1,6 +1,6 @@
 // Texts, from the line that has them to the reply.
-use rss_asserts::assert_same_slices;
 use rss_base::{Call, Reply};
+use rss_images::assert_same_slices;
 use rss_line::{Line, Names, read_line, say};
 use std::alloc::Global;
 use std::test::Fail;

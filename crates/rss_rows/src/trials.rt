@@ -1,8 +1,8 @@
 // Trials: scripts that are generated, run over a store, and counted.
 use crate::harness::NEVER;
-use rss_asserts::{assert_same, assert_same_slices};
 use rss_base::Source;
 use rss_device::{MemDevice, MemSink, MemSource};
+use rss_images::{assert_same, assert_same_slices};
 use rss_scripts::{format_device, run_script, run_words};
 use rss_top::Status;
 use std::alloc::Global;

@@ -1,6 +1,6 @@
 // Variables of a script.
-use rss_asserts::assert_same;
 use rss_base::{Call, Name, Reply, Tid};
+use rss_images::assert_same;
 use rss_line::{Line, LineFault, Names, read_line};
 use std::alloc::Global;
 use std::fmt::Write;

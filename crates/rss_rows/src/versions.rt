@@ -1,8 +1,7 @@
 // Stores of earlier versions of the format.
 use crate::harness::{Row, SMALL, WHOLE, assert_script, empty_store};
-use rss_asserts::assert_same;
 use rss_device::MemDevice;
-use rss_images::filled_pages;
+use rss_images::{assert_same, filled_pages};
 use std::alloc::Global;
 use std::test::Fail;
 

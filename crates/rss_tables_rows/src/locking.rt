@@ -1,7 +1,7 @@
 // Locks beside a table of modes and a plain list.
 use crate::harness::{LockTable, TRANSACTIONS, name};
-use rss_asserts::{Draws, assert_same, assert_same_slices};
 use rss_base::{Item, Mode, Name, Need, Text, Tid, Tuple, Value};
+use rss_images::{Draws, assert_same, assert_same_slices};
 use std::alloc::Global;
 use std::test::Fail;
 

@@ -1,7 +1,7 @@
 // Open transactions beside plain lists.
 use crate::harness::{begin, cut, gone, newest, note, save, saves, take_newest};
-use rss_asserts::{Draws, assert_same, assert_same_slices};
 use rss_base::Marks;
+use rss_images::{Draws, assert_same, assert_same_slices};
 use rss_trans::{Open, Sums};
 use std::alloc::Global;
 use std::test::Fail;

@@ -1,7 +1,7 @@
 // Scans beside a plain list.
 use crate::harness::{close, gave, name};
-use rss_asserts::{Draws, assert_same};
 use rss_base::{Key, Tid};
+use rss_images::{Draws, assert_same};
 use rss_scan::{Path, SCANS_MOST, Scans};
 use std::alloc::Global;
 use std::test::Fail;

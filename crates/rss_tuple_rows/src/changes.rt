@@ -4,8 +4,8 @@ use crate::calls::{
     replace, tid,
 };
 use crate::plain::{Held, Plain};
-use rss_asserts::{Draws, assert_same, assert_same_slices};
 use rss_base::{Body, Pages, Space, Tid};
+use rss_images::{Draws, assert_same, assert_same_slices};
 use rss_page::Entry;
 use std::alloc::Global;
 use std::test::Fail;

@@ -4,8 +4,8 @@ use crate::calls::{
     Tried, Undone, choose, empty, fetch, insert_at, key_of, next_live, put_home, put_overflow,
     remove, replace, tid,
 };
-use rss_asserts::assert_same;
 use rss_base::{Body, Page, PageFault, Pages, Place, Space, Tid};
+use rss_images::assert_same;
 use std::alloc::Global;
 use std::test::Fail;
 

@@ -1,7 +1,7 @@
 // Where tuples stand, and which identifiers they get, by examples.
 use crate::calls::{Tried, choose, empty, entry_at, fetch, insert_at, replace, tid};
-use rss_asserts::assert_same;
 use rss_base::{Body, Pages, Space, Tid};
+use rss_images::assert_same;
 use rss_page::Entry;
 use std::test::Fail;
 

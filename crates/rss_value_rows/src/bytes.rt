@@ -1,7 +1,7 @@
 // Tuples as bytes, by bytes written out.
 use crate::harness::{Written, added, body_of, field, tuple_of};
-use rss_asserts::{assert_same, assert_same_slices, assert_some};
 use rss_base::{FieldDef, FieldKind};
+use rss_images::{assert_same, assert_same_slices, assert_some};
 use rss_value::decode;
 use std::alloc::Global;
 use std::test::Fail;

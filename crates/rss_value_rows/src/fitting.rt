@@ -1,7 +1,7 @@
 // Which tuples fit, by values written out.
 use crate::harness::{Written, added, field, tuple_of};
-use rss_asserts::assert_same;
 use rss_base::{FieldDef, FieldKind};
+use rss_images::assert_same;
 use rss_value::fits;
 use std::alloc::Global;
 use std::test::Fail;

@@ -1,7 +1,7 @@
 // Keys, by bytes written out and by the order of the values.
 use crate::harness::{Written, added, field, key_of, tuple_of};
-use rss_asserts::{assert_same, assert_same_slices, assert_some};
 use rss_base::{FieldKind, Key};
+use rss_images::{assert_same, assert_same_slices, assert_some};
 use rss_value::compare_keys;
 use std::alloc::Global;
 use std::cmp::Ordering;
