@@ -49,9 +49,9 @@ use Rattle.rss_session.proofs.Changed.{numbered_told}
 use Rattle.rss_session.proofs.Passing.{goes_then, goes_still, goes_opened}
 use Rattle.rss_rsi.specs.Changing.{RulesSay, StillShows, ChangeEnds, IsChangeOf}
 use Rattle.rss_rsi.specs.Placing.{MayCost}
-use Rattle.rss_rsi.specs.Views.{RssParts, IsIn, SameHeld, engine_view}
+use Rattle.rss_rsi.specs.Views.{RssParts, IsIn, engine_view}
 use Rattle.rss_rsi.proofs.Spelled.{still_scans}
-use Rattle.rss_rsi.proofs.Ways.{shows_locked, in_held, in_left, left_same, goes, LeadsAll, answers, keeps_same}
+use Rattle.rss_rsi.proofs.Ways.{SameHeld, shows_locked, in_held, in_left, left_same, goes, LeadsAll, answers, keeps_same}
 
 -- ---- what was weighed
 

@@ -24,8 +24,8 @@ use Rattle.rss_model.specs.Steps.{locked, locked_by, refusal}
 use Rattle.rss_session.specs.Calls.{KeepsTables}
 use Rattle.rss_session.specs.Shown.{Shows}
 use Rattle.rss_rsi.specs.Locking.{IsClaimed, ClaimEnds}
-use Rattle.rss_rsi.specs.Views.{RssParts, IsIn, SameHeld, engine_view}
-use Rattle.rss_rsi.proofs.Ways.{left_same, lacks_behind, refused_behind}
+use Rattle.rss_rsi.specs.Views.{RssParts, IsIn, engine_view}
+use Rattle.rss_rsi.proofs.Ways.{SameHeld, left_same, lacks_behind, refused_behind}
 
 -- ---- one need more
 

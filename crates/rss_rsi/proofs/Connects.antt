@@ -40,16 +40,16 @@ use Rattle.rss_model.proofs.Transfer.{over_same}
 use Rattle.rss_session.specs.Admissions.{Says, link_admission}
 use Rattle.rss_session.specs.Linking.{FindsMembership, SaysOfChain}
 use Rattle.rss_rsi.specs.Imaging.{Searches}
-use Rattle.rss_rsi.specs.Linking.{ListsPlaced, SaysFound, above_test, below_test, chain_of, connect_tests, if_placed, outside_tests, stray_tests, unless_placed}
+use Rattle.rss_rsi.specs.Linking.{ListsPlaced, SaysFound, above_test, below_test, chain_of, connect_tests, if_placed, stray_tests}
 use Rattle.rss_rsi.specs.Locking.{IsClaimed, Lists}
-use Rattle.rss_rsi.specs.Views.{RssParts, IsIn, SameHeld}
+use Rattle.rss_rsi.specs.Views.{RssParts, IsIn}
 use Rattle.rss_rsi.proofs.Chained.{LinkIn, chain_is, finds_chain, link_entry, member_there, parent_there, form_there, tells_connect, tells_disconnect}
 use Rattle.rss_rsi.proofs.Changes.{IsLast, EndsByChange}
 use Rattle.rss_rsi.proofs.Claims.{free_as, locked_as}
 use Rattle.rss_rsi.proofs.LinkNeeds.{link_in}
-use Rattle.rss_rsi.proofs.LinkTests.{connect_linked, disconnect_linked, linked_passes, linked_refused}
+use Rattle.rss_rsi.proofs.LinkTests.{connect_linked, disconnect_linked, linked_passes, linked_refused, outside_tests, unless_placed}
 use Rattle.rss_rsi.proofs.Telling.{may_make}
-use Rattle.rss_rsi.proofs.Ways.{in_held}
+use Rattle.rss_rsi.proofs.Ways.{SameHeld, in_held}
 
 no_some : {A : Type 0} (o : Option A) → is_some o ≡ false → o ≡ None
 no_some None e = refl

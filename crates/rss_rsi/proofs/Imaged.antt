@@ -36,9 +36,9 @@ use Rattle.rss_session.specs.Sessions.{SessionView}
 use Rattle.rss_session.specs.Shown.{Shows}
 use Rattle.rss_session.proofs.Passing.{goes_then}
 use Rattle.rss_rsi.specs.Imaging.{CostsAny, IsRelisted, Searches, SearchEnds}
-use Rattle.rss_rsi.specs.Views.{RssParts, SameHeld, engine_view}
+use Rattle.rss_rsi.specs.Views.{RssParts, engine_view}
 use Rattle.rss_rsi.proofs.Imaging.{goes_any, goes_plain, may_define}
-use Rattle.rss_rsi.proofs.Ways.{NeedsNone, failed_within, lacks_behind, left_bare, refused_behind, stopped_by}
+use Rattle.rss_rsi.proofs.Ways.{SameHeld, NeedsNone, failed_within, lacks_behind, left_bare, refused_behind, stopped_by}
 
 -- ---- how a search ends
 

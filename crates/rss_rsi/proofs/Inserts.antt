@@ -48,12 +48,12 @@ use Rattle.rss_session.specs.Looks.{LooksOn}
 use Rattle.rss_session.specs.Sessions.{SessionView}
 use Rattle.rss_rsi.specs.Locking.{putting, Lists, IsClaimed, ClaimEnds}
 use Rattle.rss_rsi.specs.Placing.{IsPlaceFor, IsRelationIn, MayCost, PlacesTuple}
-use Rattle.rss_rsi.specs.Views.{RssParts, IsIn, SameHeld, MayStandAt, body_length, engine_view}
+use Rattle.rss_rsi.specs.Views.{RssParts, IsIn, MayStandAt, body_length, engine_view}
 use Rattle.rss_rsi.proofs.Changes.{IsLast, EndsByChange}
 use Rattle.rss_rsi.proofs.Claims.{first_bar_behind, granted_behind, none_bars, claim_fails}
 use Rattle.rss_rsi.proofs.Telling.{tells_insert, may_make}
 use Rattle.rss_rsi.proofs.TupleTests.{three_stop, three_pass, last_test}
-use Rattle.rss_rsi.proofs.Ways.{goes, lacks_behind}
+use Rattle.rss_rsi.proofs.Ways.{SameHeld, goes, lacks_behind}
 
 -- what stands before the last of two lists
 front_same : {A : Type 0} (one other : List A) (a b : A) → one ++ a ∷ [] ≡ other ++ b ∷ [] → one ≡ other

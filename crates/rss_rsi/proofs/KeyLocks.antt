@@ -42,12 +42,12 @@ use Rattle.rss_session.proofs.NextUniques.{ArePassed, none_passed, one_more, all
 use Rattle.rss_rsi.specs.Locking.{accessing, given, key_lock, putting, HasKey, MayBeOf, Lists, ListsAccess, ListsKeys}
 use Rattle.rss_rsi.specs.Looking.{FindsAny}
 use Rattle.rss_rsi.specs.Placing.{MayCost}
-use Rattle.rss_rsi.specs.Views.{RssParts, IsIn, SameHeld, engine_view}
+use Rattle.rss_rsi.specs.Views.{RssParts, IsIn, engine_view}
 use Rattle.rss_rsi.specs.declared.locking.Access.{Access}
 use Rattle.rss_rsi.specs.declared.locking.Access.TheVariants.{Read, Change}
 use Rattle.rss_rsi.proofs.Claims.{locked_as}
 use Rattle.rss_rsi.proofs.Looks.{goes_costly}
-use Rattle.rss_rsi.proofs.Ways.{in_held, refused_behind}
+use Rattle.rss_rsi.proofs.Ways.{SameHeld, in_held, refused_behind}
 
 -- ---- the keys of one image
 

@@ -45,13 +45,13 @@ use Rattle.rss_rsi.specs.Imaging.{Searches}
 use Rattle.rss_rsi.specs.Linking.{FindsBroken, IsMisnamed, IsRefused, SaysFound, TestEnds, kept_by, passes_all}
 use Rattle.rss_rsi.specs.Locking.{ClaimEnds}
 use Rattle.rss_rsi.specs.Placing.{MayCost}
-use Rattle.rss_rsi.specs.Views.{RssParts, IsIn, SameHeld, engine_view}
+use Rattle.rss_rsi.specs.Views.{RssParts, IsIn, engine_view}
 use Rattle.rss_rsi.proofs.Changes.{goes_anyhow}
 use Rattle.rss_rsi.proofs.Claims.{bars_as, claim_fails}
 use Rattle.rss_rsi.proofs.KeyLocks.{refused_keeping}
 use Rattle.rss_rsi.proofs.LinkTests.{IsLinked, linked_busy}
 use Rattle.rss_rsi.proofs.Looks.{costly_fails, goes_costly, lacks_costly}
-use Rattle.rss_rsi.proofs.Ways.{goes}
+use Rattle.rss_rsi.proofs.Ways.{SameHeld, goes}
 
 -- ---- tests that look at pages
 

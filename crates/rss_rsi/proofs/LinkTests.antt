@@ -7,18 +7,19 @@ use Rattle.rss_base.specs.declared.name.Name.{Name}
 use Rattle.rss_base.specs.declared.refusal.Kind.TheVariants.{Link as LinkKind}
 use Rattle.rss_base.specs.declared.refusal.LimitKind.TheVariants.{Scans as ScanLimit}
 use Rattle.rss_base.specs.declared.refusal.Refusal.{Refusal}
-use Rattle.rss_base.specs.declared.refusal.Refusal.TheVariants.{NoTransaction, NoSuch, Limit}
+use Rattle.rss_base.specs.declared.refusal.Refusal.TheVariants.{NoTransaction, NoSuch, NotConnected, Limit}
 use Rattle.rss_base.specs.declared.spot.Spot.{Spot}
 use Rattle.rss_base.specs.declared.tid.Tid.{Tid}
 use Rattle.rss_model.specs.Callers.{caller}
+use Rattle.rss_model.specs.Defining.{refused_unless}
 use Rattle.rss_model.specs.Locks.{Bar, first_bar}
 use Rattle.rss_model.specs.Machine.{State, now, is_open}
 use Rattle.rss_model.specs.Needs.{needs}
-use Rattle.rss_model.specs.Refusals.{busy, has_form, if_busy, if_connected, if_scans_used_up, link_of, unless_spot}
+use Rattle.rss_model.specs.Refusals.{busy, has_form, if_busy, if_connected, if_scans_used_up, is_in_chain, link_of, unless_spot}
 use Rattle.rss_model.specs.Steps.{admission, first_of, if_full, keeps_locks, refusal, unless_defined, unless_live, unless_open}
 use Rattle.rss_model.proofs.Tests.{goes_on, refuses_at}
 use Rattle.rss_session.specs.Admissions.{link_admission, unless_link}
-use Rattle.rss_rsi.specs.Linking.{above_test, below_test, connect_tests, if_placed, outside_tests, passes_all, unless_placed}
+use Rattle.rss_rsi.specs.Linking.{above_test, below_test, connect_tests, if_placed, passes_all}
 use Rattle.rss_rsi.specs.Placing.{MayCost}
 use Rattle.rss_rsi.proofs.ScanCalls.{busy_is}
 use Rattle.rss_rsi.proofs.TupleTests.{KeepsNone, admission_keeps, first_keeps, if_keeps, last_test, unless_keeps}
@@ -63,6 +64,13 @@ module _ {t : ℕ} {front behind last : State → Option Refusal} {call : Call} 
       linked_passes is = linked_free ∙ goes_on _ is ∙ last_test (last state)
 
 -- ---- which they are
+
+-- the tests of a call that takes a tuple out of its chain, behind those of its locks
+abbrev pub unless_placed : Name → Tid → State → Option Refusal
+unless_placed link child state = refused_unless (is_in_chain state link child) (NotConnected link)
+
+abbrev pub outside_tests : Name → Tid → State → Option Refusal
+outside_tests link child state = first_of (below_test link child state ∷ unless_placed link child state ∷ [])
 
 link_keeps : (state : State) (link : Name) (given : Option Bool) → KeepsNone (unless_link state link given)
 link_keeps state link None = unless_keeps (is_some (link_of state link)) (NoSuch LinkKind) refl

@@ -28,10 +28,10 @@ use Rattle.rss_session.specs.Admissions.{Says, Refuses}
 use Rattle.rss_session.specs.Shown.{Shows}
 use Rattle.rss_session.specs.Sessions.{SessionView}
 use Rattle.rss_rsi.specs.Locking.{Lists, IsClaimed, ClaimEnds}
-use Rattle.rss_rsi.specs.Views.{RssParts, SameHeld, engine_view}
+use Rattle.rss_rsi.specs.Views.{RssParts, engine_view}
 use Rattle.rss_rsi.proofs.Claims.{bars_as, locked_as, free_as, claim_fails}
 use Rattle.rss_rsi.proofs.Spelled.{still_scans}
-use Rattle.rss_rsi.proofs.Ways.{answers, goes_nowhere, keeps_same, leads_by, refused_early, shows_locked}
+use Rattle.rss_rsi.proofs.Ways.{SameHeld, answers, goes_nowhere, keeps_same, leads_by, refused_early, shows_locked}
 
 -- ---- refusals that keep no locks
 

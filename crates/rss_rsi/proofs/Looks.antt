@@ -53,14 +53,14 @@ use Rattle.rss_session.specs.declared.session.Session.{Session}
 use Rattle.rss_session.specs.Sessions.{IsReady as IsSessionReady}
 use Rattle.rss_session.proofs.Behind.{looks_itself}
 use Rattle.rss_rsi.specs.Changing.{IsAsked}
-use Rattle.rss_rsi.specs.Views.{RssParts, IsIn, SameHeld, IsReady, engine_view}
+use Rattle.rss_rsi.specs.Views.{RssParts, IsIn, IsReady, engine_view}
 use Rattle.rss_rsi.specs.Locking.{accessing, Lists, ClaimEnds}
 use Rattle.rss_rsi.specs.Looking.{EndsEach, MayLook, LooksFor, CostsTwo, LooksUp, FindsNone}
 use Rattle.rss_rsi.specs.Placing.{FailsToLook, MayCost}
 use Rattle.rss_rsi.specs.declared.locking.Access.{Access}
 use Rattle.rss_rsi.proofs.Claims.{bars_as, locked_as, claim_fails}
 use Rattle.rss_session.proofs.StaysOpen.{same_listed}
-use Rattle.rss_rsi.proofs.Ways.{ScanTable, asked, failed_within, goes, holders_stay, in_held, lacks_behind, refused_behind, rss_parts, scans_stay}
+use Rattle.rss_rsi.proofs.Ways.{SameHeld, ScanTable, asked, failed_within, goes, holders_stay, in_held, lacks_behind, refused_behind, rss_parts, scans_stay}
 
 -- ---- what a look passes on
 

@@ -29,11 +29,11 @@ use Rattle.rss_session.specs.Looks.{LooksOn, IsAloneAt, IsPlace, HasNoPlace}
 use Rattle.rss_session.specs.Sessions.{SessionView}
 use Rattle.rss_rsi.specs.Looking.{EndsEach}
 use Rattle.rss_rsi.specs.Placing.{FailsToLook, IsRelationIn, IsPlaceFor, PlacesTuple}
-use Rattle.rss_rsi.specs.Views.{RssParts, IsIn, SameHeld, engine_view}
+use Rattle.rss_rsi.specs.Views.{RssParts, IsIn, engine_view}
 use Rattle.rss_rsi.proofs.Beside.{any_beside, listed_stands, stands_listed}
 use Rattle.rss_rsi.proofs.Looks.{costly_fails, goes_costly, lacks_costly, passed_on}
 use Rattle.rss_session.proofs.Behind.{looks_then}
-use Rattle.rss_rsi.proofs.Ways.{left_same, refused_behind}
+use Rattle.rss_rsi.proofs.Ways.{SameHeld, left_same, refused_behind}
 
 -- ---- what others hold
 

@@ -50,7 +50,7 @@ use Rattle.rss_session.proofs.First.{first_passes, first_stops}
 use Rattle.rss_rsi.specs.Locking.{Lists, IsClaimed, ClaimEnds}
 use Rattle.rss_rsi.specs.Placing.{MayCost}
 use Rattle.rss_rsi.specs.Scanning.{FindsNext, FindsNextRow, IsScanIn}
-use Rattle.rss_rsi.specs.Views.{RssParts, SameHeld, IsIn, AreScans, HasKeys, spelling, engine_view}
+use Rattle.rss_rsi.specs.Views.{RssParts, IsIn, AreScans, HasKeys, spelling, engine_view}
 use Rattle.rss_rsi.proofs.Claims.{bars_as, free_as, grants_as, claim_fails}
 use Rattle.rss_rsi.proofs.LockCalls.{store_same, unless_keeps}
 use Rattle.rss_rsi.proofs.Looks.{goes_costly, passed_call}
@@ -58,7 +58,7 @@ use Rattle.rss_rsi.proofs.Scans.{has_scan, not_scanned, scans_full, scans_left, 
 use Rattle.rss_rsi.proofs.Spelled.{added_scans, given_scans, removed_scans, still_scans}
 use Rattle.rss_rsi.proofs.TransactionSteps.{number_line}
 use Rattle.rss_rsi.proofs.TupleTests.{admission_keeps, last_test}
-use Rattle.rss_rsi.proofs.Ways.{answers, goes_nowhere, keeps_same, left_bare, left_same, leads_by, refused_alike, refused_early, shows_locked, shows_scanned}
+use Rattle.rss_rsi.proofs.Ways.{SameHeld, answers, goes_nowhere, keeps_same, left_bare, left_same, leads_by, refused_alike, refused_early, shows_locked, shows_scanned}
 
 -- ---- the tests
 

@@ -27,8 +27,8 @@ use Rattle.rss_session.specs.Admissions.{Says}
 use Rattle.rss_session.specs.Calls.{KeepsTables, CommitsTables, HasMarks, Restores, Aborts}
 use Rattle.rss_session.specs.Sessions.{SessionView}
 use Rattle.rss_session.specs.Shown.{Shows}
-use Rattle.rss_rsi.specs.Views.{RssParts, AreScans, IsIn, SameHeld}
-use Rattle.rss_rsi.proofs.Ways.{Leads, LeadsAll, stopped_by, leads_by, leads_held, keeps_same}
+use Rattle.rss_rsi.specs.Views.{RssParts, AreScans, IsIn}
+use Rattle.rss_rsi.proofs.Ways.{SameHeld, Leads, LeadsAll, stopped_by, leads_by, leads_held, keeps_same}
 
 -- an open transaction has the save points that are listed
 has_marks : {view : SessionView} {state : State} (t : ℕ) → is_open view.opened t ≡ true → Shows view state → HasMarks state t (transaction_in view.opened t).saves

@@ -53,7 +53,7 @@ use Rattle.rss_session.specs.Shown.{Shows}
 use Rattle.rss_store.specs.Stores.{StoreView}
 use Rattle.rss_store.specs.Shown.{HoldsTables}
 use Rattle.rss_session.proofs.Steady.{shows_same}
-use Rattle.rss_rsi.specs.Views.{RssParts, AreScans, IsIn, SameHeld, engine_view, AllMayGoOn, IsReady}
+use Rattle.rss_rsi.specs.Views.{RssParts, AreScans, IsIn, engine_view, AllMayGoOn, IsReady}
 use Rattle.rss_rsi.proofs.Long.{closed_left, long_still}
 use Rattle.rss_rsi.proofs.Spelled.{still_scans}
 
@@ -88,6 +88,11 @@ pub shows_scanned : {view : SessionView} {state : State} (scans : Scans) → Sho
 shows_scanned {state = state} scans shows = shows_with state.locks scans shows
 
 -- ---- what is held
+
+-- the transactions hold the locks that they held, and their scans are as they were
+pub record SameHeld (old new : RssParts) : Type 0 where
+  pub locks : new.locks.locks ≡ old.locks.locks
+  pub scans : new.scans ≡ old.scans
 
 -- the engine is in the same state where all that is held is as it was
 pub in_held : {old new : RssParts} {state : State} → SameHeld old new → Shows new.session state → IsIn old state → IsIn new state

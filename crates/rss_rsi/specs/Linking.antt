@@ -17,7 +17,7 @@ use Rattle.rss_base.specs.declared.spot.Spot.{Spot}
 use Rattle.rss_base.specs.declared.tid.Tid.{Tid}
 use Rattle.rss_members.specs.declared.membership.Membership.{Membership}
 use Rattle.rss_model.specs.Chains.{chain_with}
-use Rattle.rss_model.specs.Defining.{refused_unless, refused_if}
+use Rattle.rss_model.specs.Defining.{refused_if}
 use Rattle.rss_model.specs.Kept.{Kept}
 use Rattle.rss_model.specs.Locks.{Locks, granted}
 use Rattle.rss_model.specs.Machine.{State, now}
@@ -114,21 +114,15 @@ below_test link child state = unless_child state (link_of state link) child
 abbrev pub above_test : Name → Option Tid → State → Option Refusal
 above_test link parent state = unless_parent state (link_of state link) parent
 
--- the tuple stands in a chain, or in none
+-- the tuple stands in a chain
 abbrev pub if_placed : Name → Tid → State → Option Refusal
 if_placed link child state = refused_if (is_in_chain state link child) (Connected link)
 
-abbrev pub unless_placed : Name → Tid → State → Option Refusal
-unless_placed link child state = refused_unless (is_in_chain state link child) (NotConnected link)
-
--- the tests of a call that puts a tuple into a chain, and of one that takes it out, behind those of their locks
+-- the tests of a call that puts a tuple into a chain, behind those of its locks
 abbrev pub connect_tests : Name → Tid → Option Tid → Spot → State → Option Refusal
 connect_tests link child parent spot state =
     first_of (below_test link child state ∷ above_test link parent state ∷ if_placed link child state
     ∷ unless_spot state link parent spot ∷ [])
-
-abbrev pub outside_tests : Name → Tid → State → Option Refusal
-outside_tests link child state = first_of (below_test link child state ∷ unless_placed link child state ∷ [])
 
 -- what a call is refused for that takes a tuple out which stands in no chain
 abbrev pub stray_tests : Name → Tid → State → Option Refusal

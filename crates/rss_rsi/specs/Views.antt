@@ -102,11 +102,6 @@ pub record IsIn (parts : RssParts) (state : State) : Type 0 where
   pub scanned : AreScans state.base.definitions state.scans parts.scans
   pub kept : Kept state
 
--- the transactions hold the locks that they held, and their scans are as they were
-pub record SameHeld (old new : RssParts) : Type 0 where
-  pub locks : new.locks.locks ≡ old.locks.locks
-  pub scans : new.scans ≡ old.scans
-
 -- how many bytes a body has whose values have so many: the number of its relation and the blocks of its links stand before them
 abbrev pub body_length : Listing → ℕ → ℕ → ℕ
 body_length listing number values = 1 + prefix_size listing.links number + values

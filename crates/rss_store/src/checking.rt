@@ -61,8 +61,6 @@ pub fn look_through<P: Pages>(alloc: Global, tuples: &mut Store<P>) -> Result<Ca
     ensures did { (most : ℕ) × ChecksPages IsHeapKey most
         (P.view tuples.old.pages) (P.view tuples.new.pages) result }
 {
-    // Numbers of pages are below this, so none of them is the one that stands for no page.
-    let _slots = tuples.pages.slots();
     let catalog = Catalog::load(alloc, &mut tuples.pages)?;
     if let Some(key) = first_foreign(&tuples.pages, &catalog) {
         return Err(PageFault::Damaged(Place::Page(key)));

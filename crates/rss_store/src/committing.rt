@@ -4,6 +4,7 @@ ghost use Rattle.rss_base.specs.DiskRule.{Pages as DevicePages, IsTold, Leaves, 
 ghost use Rattle.rss_base.specs.LogRecords.{record_size};
 ghost use Rattle.rss_base.specs.declared.log_record.LogRecord.TheVariants as records;
 ghost use Rattle.rss_base.specs.Paged.{Held, mapped_pages, WritesWaiting};
+ghost use Rattle.rss_base.specs.Sizes.{format_version};
 ghost use Rattle.rss_buffer.specs.Saving.{SavingCall};
 ghost use Rattle.rss_buffer.specs.declared.stage.Stage.{Stage as AnyStage};
 ghost use Rattle.rss_model.specs.Machine.{State};
@@ -107,6 +108,7 @@ impl<S: Saving> DurableStore<S> {
         ensures appends { (view S.view self.new).log.end
             ≤ (view S.view self.old).log.end + record_size (records.Checkpoint marks) }
         ensures size { size_of (view S.view self.new).root ≡ size_of (view S.view self.old).root }
+        ensures version { OnOk result ((view S.view self.new).root.version ≡ format_version) }
         ensures listing { (view S.view self.new).catalog.listing
             ≡ (view S.view self.old).catalog.listing }
     {

@@ -41,22 +41,6 @@ impl<S: Saving> DurableStore<S> {
         pages.mapped() - pages.image_pages() - SYSTEM_PAGES
     }
 
-    /// The first position of the log that is kept.
-    pub fn log_head(&self) -> u64
-        ensures head { result ≡ (view S.view self.now).log.head }
-        ensures log { IsLog (view S.view self.now).log }
-    {
-        self.log.head()
-    }
-
-    /// The next position of the log.
-    pub fn log_end(&self) -> u64
-        ensures end { result ≡ (view S.view self.now).log.end }
-        ensures log { IsLog (view S.view self.now).log }
-    {
-        self.log.end()
-    }
-
     /// How many bytes may be appended to the log.
     pub fn log_free(&self) -> u64
         ensures free { result ≡ free_of (view S.view self.now).log }

@@ -40,13 +40,13 @@ returns-in_err-look_at_segments-clause-did g c =
 pub look_at_links-requires : goal.look_at_links-requires
 look_at_links-requires g c = record {
   heaps = heaps_seen (g.met.P.Pages.holds c.args.tuples.now.pages) (g.met.P.Pages.allowed c.args.tuples.now.pages) c.in_ok-catalog.ensures.loaded c.in_ok-catalog.ensures.did
-      c.in_ok-look_at_segments.ensures.did (omega (arith, c.slots-slots.ensures, c.slots-slots.type_inv)) c.in_default.ensures.none c.in_ok-look_at_segments.ensures.checks;
+      c.in_ok-look_at_segments.ensures.did (g.met.P.Pages.few_slots c.args.tuples.now.pages) c.in_default.ensures.none c.in_ok-look_at_segments.ensures.checks;
 }
 
 pub returns-in_err-look_at_links-clause-none : goal.returns-in_err-look_at_links-clause-none
 returns-in_err-look_at_links-clause-none g c = λ place is.
     none_linked (g.met.P.Pages.holds c.args.tuples.now.pages) (g.met.P.Pages.allowed c.args.tuples.now.pages) c.in_ok-catalog.ensures.loaded c.in_ok-catalog.ensures.did
-    c.in_ok-look_at_segments.ensures.did (omega (arith, c.slots-slots.ensures, c.slots-slots.type_inv)) (c.in_err-look_at_links.ensures.misses place (passed_on _ c.from_residual-in_err-look_at_links.ensures.1 is))
+    c.in_ok-look_at_segments.ensures.did (g.met.P.Pages.few_slots c.args.tuples.now.pages) (c.in_err-look_at_links.ensures.misses place (passed_on _ c.from_residual-in_err-look_at_links.ensures.1 is))
 
 pub returns-in_err-look_at_links-clause-did : goal.returns-in_err-look_at_links-clause-did
 returns-in_err-look_at_links-clause-did g c =
@@ -58,7 +58,7 @@ returns-in_err-look_at_links-clause-did g c =
 pub look_at_images-requires : goal.look_at_images-requires
 look_at_images-requires g c = record {
   heaps = heaps_seen (g.met.P.Pages.holds c.args.tuples.now.pages) (g.met.P.Pages.allowed c.args.tuples.now.pages) c.in_ok-catalog.ensures.loaded c.in_ok-catalog.ensures.did
-      (looks_on c.in_ok-look_at_segments.ensures.did c.in_ok-look_at_links.ensures.did.1) (omega (arith, c.slots-slots.ensures, c.slots-slots.type_inv)) c.in_default.ensures.none
+      (looks_on c.in_ok-look_at_segments.ensures.did c.in_ok-look_at_links.ensures.did.1) (g.met.P.Pages.few_slots c.args.tuples.now.pages) c.in_default.ensures.none
       (noted_on (λ told. c.in_ok-look_at_segments.ensures.did.looks.step.passes.leaves.told.0 told) c.in_ok-look_at_links.ensures.did.1 c.in_ok-look_at_segments.ensures.checks);
 }
 
@@ -77,7 +77,7 @@ returns-in_err-look_at_images-clause-did g c =
 pub returns-clause-finds : goal.returns-clause-finds
 returns-clause-finds g c =
     finds_tables (g.met.P.Pages.holds c.args.tuples.now.pages) (g.met.P.Pages.allowed c.args.tuples.now.pages) c.in_ok-catalog.ensures.loaded c.in_ok-catalog.ensures.did
-    (looks_on c.in_ok-look_at_segments.ensures.did c.in_ok-look_at_links.ensures.did.1) (omega (arith, c.slots-slots.ensures, c.slots-slots.type_inv)) c.in_default.ensures.none
+    (looks_on c.in_ok-look_at_segments.ensures.did c.in_ok-look_at_links.ensures.did.1) (g.met.P.Pages.few_slots c.args.tuples.now.pages) c.in_default.ensures.none
     (noted_on (λ told. c.in_ok-look_at_segments.ensures.did.looks.step.passes.leaves.told.0 told) c.in_ok-look_at_links.ensures.did.1 c.in_ok-look_at_segments.ensures.checks)
     c.in_ok-look_at_images.ensures.did.1
     (links_old (g.met.P.Pages.holds c.args.tuples.now.pages) (g.met.P.Pages.allowed c.args.tuples.now.pages) c.in_ok-catalog.ensures.loaded c.in_ok-catalog.ensures.did

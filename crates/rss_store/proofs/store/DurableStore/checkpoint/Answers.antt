@@ -1,6 +1,7 @@
 use Rattle.std.proofs.Common.{◌≡◌, ℕ, ◌+◌, ◌-◌, Bool, List, ◌++◌, length, inl, inr, ⊎_elim, refl, sym, ◌∙◌, ap, subst, arith}
 use Rattle.rss_base.specs.LogRecords.{ArePlaced, record_size}
 use Rattle.rss_base.specs.declared.log_record.LogRecord.TheVariants as records
+use Rattle.rss_base.specs.declared.root.Root.{Root}
 use Rattle.rss_base.proofs.Moments.{widened, then, no_more, continues, continues_then, rises_since}
 use Rattle.rss_buffer.proofs.SavingSteps.{saving_then}
 use Rattle.rss_log.specs.Logs.{LogView, HasRecords, with_head}
@@ -368,3 +369,6 @@ returns-clause-writes g c =
     let self = c.args.self.now in
     let log_end : c.append-checkpoint.new.self.end ≡ self.log.end + record_size (records.Checkpoint c.args.marks) = ap (λ (l : LogView). l.end) c.append-checkpoint.ensures.appended in
     λ keys has. omega (arith, writes_all c.in_ok-store.ensures.did.step (g.met.S.Saving.saveable c.store.new.pages) c.in_ok-save.ensures.writes keys has, c.in_ok-select.ensures.writes, c.adopt.ensures.adopted.writes, ap (new_pieces self.root) log_end)
+
+pub returns-clause-version : goal.returns-clause-version
+returns-clause-version g c = ap (λ (r : Root). r.version) c.in_ok-select.ensures.selected.root

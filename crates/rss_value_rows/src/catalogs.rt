@@ -1,0 +1,128 @@
+// Pages of a catalog, by bytes written out: fields that were added, and links that are late.
+ghost use Rattle.std.specs.Prelude.{◌≡◌, Some};
+ghost use Rattle.rss_base.specs.Listings.{padded, relation_bytes, link_bytes};
+ghost use Rattle.rss_base.specs.Listings.{relation_spelled, link_spelled};
+ghost use Rattle.rss_catalog.specs.Reading.{relation_of, link_of};
+ghost use Rattle.rss_value_rows.specs.Listed.{two_added, late_link};
+
+use rss_images::assert_same;
+use rss_base::{PAGE_BYTES, Page, PageFault, PageKey, Pages, Place, SYSTEM_PAGES, Space};
+use rss_catalog::Catalog;
+use rss_device::MemPages;
+use std::alloc::Global;
+use std::test::Fail;
+
+/// How many slots the pages have.
+const SLOTS: u32 = 64;
+
+/// The bytes of a relation with an INT, and an INT and a TEXT 3 that were added.
+fn two_added() -> [u8; 86]
+    ensures spelled { padded relation_bytes result ≡ relation_spelled (Some two_added) }
+    ensures read { relation_of (padded relation_bytes result) ≡ Some two_added }
+{
+    *b"r\0\0\0\0\0\0\0\0\0\0\0\0\0\0\0\x01\x03\x02\0\0\0\0\0\0\0\0\0\0\0\0\0a\0\0\0\0\0\0\0\0\0\0\0\0\0\0\0\x01\0b\0\0\0\0\0\0\0\0\0\0\0\0\0\0\0\x01\0c\0\0\0\0\0\0\0\0\0\0\0\0\0\0\0\x02\x03"
+}
+
+/// The bytes of a late link of its tuples, none of which stands in the chain.
+fn late_link() -> [u8; 32]
+    ensures spelled { padded link_bytes result ≡ link_spelled (Some late_link) }
+    ensures read { link_of (padded link_bytes result) ≡ Some late_link }
+{
+    *b"l\0\0\0\0\0\0\0\0\0\0\0\0\0\0\0\x01\0\x01\x01\xff\xff\xff\xff\xff\xff\xff\xff\xff\xff\xff\xff"
+}
+
+/// A byte of the catalog: the page, the place in it, and what stands there.
+type Turned = (u32, usize, u8);
+
+/// No field was added, and the link isn't late.
+const ORIGINAL: Turned = (1, 18, 0);
+
+const EARLY: Turned = (9, 19, 0);
+
+/// Bytes of a catalog with that relation and that link, and what it has then; whether its pages are in
+/// form; and the page at which it is refused, if it is. As yet added fields and late links are refused.
+static CATALOGS: [(&str, &[Turned], bool, Option<u8>); 12] = [
+    ("two added fields and a late link", &[], true, Some(1)),
+    ("two added fields", &[EARLY], true, Some(1)),
+    ("one added field", &[(1, 18, 1), EARLY], true, Some(1)),
+    ("three added fields", &[(1, 18, 3), EARLY], true, Some(1)),
+    ("a late link", &[ORIGINAL], true, Some(9)),
+    ("none of these", &[ORIGINAL, EARLY], true, None),
+    ("more added fields than fields", &[(1, 18, 4), EARLY], false, Some(1)),
+    ("255 added fields", &[(1, 18, 255), EARLY], false, Some(1)),
+    ("an added field of no relation", &[ORIGINAL, EARLY, (1, 530, 1)], false, Some(1)),
+    ("a link that is 2", &[ORIGINAL, (9, 19, 2)], false, Some(9)),
+    ("a link that is 255", &[ORIGINAL, (9, 19, 255)], false, Some(9)),
+    ("late and no link", &[ORIGINAL, EARLY, (9, 83, 1)], false, Some(9)),
+];
+
+/// A page of that catalog, where the segment has a name of this letter.
+fn page_of(number: u32, letter: u8, turned: &[Turned]) -> Page {
+    let mut page = [0u8; PAGE_BYTES];
+    match number {
+        0 => page[0] = letter,
+        1 => page[..86].copy_from_slice(&two_added()),
+        9 => page[..32].copy_from_slice(&late_link()),
+        _ => {}
+    }
+    for (of, at, byte) in turned {
+        if *of == number && *at < PAGE_BYTES {
+            page[*at] = *byte;
+        }
+    }
+    page
+}
+
+/// Why that catalog is refused, if it is.
+fn refused(alloc: Global, letter: u8, turned: &[Turned]) -> Result<Option<PageFault>, Fail> {
+    let mut pages = MemPages::new(alloc, SLOTS)?;
+    for number in 0..SYSTEM_PAGES {
+        put_page(&mut pages, number, &page_of(number, letter, turned))?;
+    }
+    Ok(Catalog::load(alloc, &mut pages).err())
+}
+
+fn put_page(pages: &mut MemPages, number: u32, page: &Page) -> Result<(), Fail> {
+    let key = PageKey {
+        segment: 0,
+        space: Space::System,
+        number,
+    };
+    if pages.has(key) || pages.spare() == 0 || number >= SYSTEM_PAGES {
+        return Err("no page can be taken".into());
+    }
+    pages.take_at(key)?;
+    if pages.has(key) {
+        pages.write(key, page)?;
+    }
+    Ok(())
+}
+
+/// A catalog is refused at this page, or isn't.
+fn assert_refused(
+    alloc: Global,
+    letter: u8,
+    (case, turned): (&str, &[Turned]),
+    page: Option<u8>,
+) -> Result<(), Fail> {
+    let want = page.map(|page| PageFault::Damaged(Place::Catalog(page)));
+    assert_same(&refused(alloc, letter, turned)?, &want, case)
+}
+
+#[test]
+fn added_fields_and_late_links_are_refused_at_their_pages(rt: HostRuntime) -> Result<(), Fail> {
+    for (case, turned, _, page) in &CATALOGS {
+        assert_refused(rt.alloc(), b's', (case, turned), *page)?;
+    }
+    Ok(())
+}
+
+/// No name begins with a digit, and names are tested once all pages were found in form.
+#[test]
+fn added_fields_and_late_links_are_in_form(rt: HostRuntime) -> Result<(), Fail> {
+    for (case, turned, formed, page) in &CATALOGS {
+        let page = if *formed { Some(0) } else { *page };
+        assert_refused(rt.alloc(), b'7', (case, turned), page)?;
+    }
+    Ok(())
+}
