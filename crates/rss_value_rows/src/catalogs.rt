@@ -39,8 +39,9 @@ const ORIGINAL: Turned = (1, 18, 0);
 
 const EARLY: Turned = (9, 19, 0);
 
-/// Bytes of a catalog with that relation and that link, and what it has then; whether its pages are in
-/// form; and the page at which it is refused, if it is. As yet added fields and late links are refused.
+/// What a catalog of that relation and that link has with some bytes turned, these bytes, whether its
+/// pages are in form, and the page at which it is refused, if it is. As yet added fields and late links
+/// are refused in form too.
 static CATALOGS: [(&str, &[Turned], bool, Option<u8>); 12] = [
     ("two added fields and a late link", &[], true, Some(1)),
     ("two added fields", &[EARLY], true, Some(1)),
@@ -48,12 +49,27 @@ static CATALOGS: [(&str, &[Turned], bool, Option<u8>); 12] = [
     ("three added fields", &[(1, 18, 3), EARLY], true, Some(1)),
     ("a late link", &[ORIGINAL], true, Some(9)),
     ("none of these", &[ORIGINAL, EARLY], true, None),
-    ("more added fields than fields", &[(1, 18, 4), EARLY], false, Some(1)),
+    (
+        "more added fields than fields",
+        &[(1, 18, 4), EARLY],
+        false,
+        Some(1),
+    ),
     ("255 added fields", &[(1, 18, 255), EARLY], false, Some(1)),
-    ("an added field of no relation", &[ORIGINAL, EARLY, (1, 530, 1)], false, Some(1)),
-    ("a link that is 2", &[ORIGINAL, (9, 19, 2)], false, Some(9)),
-    ("a link that is 255", &[ORIGINAL, (9, 19, 255)], false, Some(9)),
-    ("late and no link", &[ORIGINAL, EARLY, (9, 83, 1)], false, Some(9)),
+    (
+        "an added field of no relation",
+        &[ORIGINAL, EARLY, (1, 530, 1)],
+        false,
+        Some(1),
+    ),
+    ("late by 2", &[ORIGINAL, (9, 19, 2)], false, Some(9)),
+    ("late by 255", &[ORIGINAL, (9, 19, 255)], false, Some(9)),
+    (
+        "late and no link",
+        &[ORIGINAL, EARLY, (9, 83, 1)],
+        false,
+        Some(9),
+    ),
 ];
 
 /// A page of that catalog, where the segment has a name of this letter.
