@@ -20,9 +20,10 @@ use Rattle.rss_base.specs.declared.key.PageKey.{PageKey}
 use Rattle.rss_base.specs.declared.key.Space.TheVariants.{Home, Overflow, Image, System}
 use Rattle.rss_base.specs.declared.link.LinkEntry.{LinkEntry}
 use Rattle.rss_base.specs.declared.place.Place.{Place}
+use Rattle.rss_base.specs.declared.place.Place.TheVariants.{Link as LinkPlace}
 use Rattle.rss_base.specs.declared.refusal.Kind.TheVariants.{Link as LinkKind}
 use Rattle.rss_base.specs.declared.tid.Tid.{Tid}
-use Rattle.rss_base.proofs.Steps.{within}
+use Rattle.rss_base.proofs.Steps.{rests, within}
 use Rattle.rss_page.specs.Slotted.{IsHeapKey}
 use Rattle.rss_tuple.specs.Placing.{TakesOnly}
 use Rattle.rss_catalog.specs.Catalogs.{CatalogView, Lists, page_of, with_ends}
@@ -32,8 +33,9 @@ use Rattle.rss_model.proofs.LogLists.{some_of}
 use Rattle.rss_stored.proofs.Relisted.{number_at, number_set, number_within_list}
 use Rattle.rss_members.specs.declared.membership.Membership.{Membership}
 use Rattle.rss_members.specs.Calls.{MembersView, MayRelink, Connects, Disconnects, NoneConnects, NoneDisconnects, Reends, Relinks, relink_cost, pages_in_link, pages_of_link}
-use Rattle.rss_access.specs.Changes.{AccessView, both, members, CanAlter, HasTables, AltersChain, Alters, Misfits, Makes, Takes, pages_told}
-use Rattle.rss_access.specs.Changes.Misfits.{connect as connect_misfits, disconnect as disconnect_misfits}
+use Rattle.rss_access.specs.Told.{IsTupleRecord, number_told}
+use Rattle.rss_access.specs.Changes.{AccessView, both, members, CanAlter, HasTables, HasRoom, AltersChain, Alters, Misfits, Makes, Takes, pages_told}
+use Rattle.rss_access.specs.Changes.Misfits.{chain_room, connect as connect_misfits, disconnect as disconnect_misfits}
 use Rattle.rss_access.specs.Relisted.{KeepsSpelled, Rerooted, Relists}
 use Rattle.rss_access.proofs.Between.{heap_no_image}
 use Rattle.rss_access.proofs.ChainTables.{members_has, chain_still, fewer_of, none_taken}
@@ -212,12 +214,13 @@ heap_touched listing number key is = heap_pages listing number (link_at listing 
 pub listed_link_of : {T : Type 0} {number : ℕ} {old new : MembersView} {value : T} → Relinks number old new (Ok value) → (link : LinkEntry) × (link_at old.catalog.listing number ≡ Some link)
 listed_link_of {number = number} {old = old} relinks = some_of (link_at old.catalog.listing number) relinks.listed
 
-module _ {T : Type 0} {old new : AccessView} {value : T} {number : ℕ} (small : old.pages.slots < 2 ^ 32) (relinks : Relinks number (members old) (members new) (Ok value)) where
+module _ {T : Type 0} {old new : AccessView} {value : T} {number : ℕ} (small : old.pages.slots < 2 ^ 32) (room : HasRoom old 0) (relinks : Relinks number (members old) (members new) (Ok value)) where
   pub alters_chain : {result : MembersView → MembersView → Type 0} → result (members old) (members new) → AltersChain result number old new
   alters_chain chains = let listed = listed_link_of relinks in record {
     link = listed.0;
     listed = listed.1;
     small = small;
+    room = room;
     takes = relinks.takes;
     heaps = relinks.did.heaps;
     ends = relinks.lists listed.0 listed.1;
@@ -251,6 +254,22 @@ module _ {T : Type 0} {change : told.Change} {old new : AccessView} where
       → ((place : Place) → ◌≡◌ {A = Result T PageFault} (Err fault) (Err (Damaged place)) → IsTold old.pages.disk → PagesStep no_page 16 16 old.pages new.pages) → Makes {T = T} change old new result
   chain_fails fault (Ok value) is step same failed memory misfits kept = absurd is
   chain_fails fault (Err e) is step same failed memory misfits kept = subst (λ (f : PageFault). Makes {T = T} change old new (Err f)) (sym is) (fails_at fault step same failed memory misfits kept)
+
+-- there is no room for it, which is seen before anything is done
+pub no_room_fails : {T : Type 0} {change : told.Change} {at : AccessView} (fault : PageFault) (result : Result T PageFault) → IsErrAnd result (λ why. why ≡ fault) → fault ≡ Damaged (LinkPlace (number_told change)) → (IsTupleRecord change → ⊥) → (IsTold at.pages.disk → HasTables at → HasRoom at 0 → ⊥) → Makes {T = T} change at at result
+no_room_fails {T = T} {change = change} {at = at} fault result is full chain none =
+    chain_fails fault result is (rests at.pages) refl (λ failed. absurd (other full failed)) (λ out. no_memory full out)
+    (λ place damaged told has. subst (Misfits change at) (there full damaged) (chain_room chain (none told has)))
+    (λ place damaged told. rests at.pages)
+  where
+    other : fault ≡ Damaged (LinkPlace (number_told change)) → IsErrOf {T = T} (Err fault) DeviceFailed → ⊥
+    other full is = cc (full, is)
+
+    no_memory : fault ≡ Damaged (LinkPlace (number_told change)) → IsErrOf {T = T} (Err fault) NoMemory → ⊥
+    no_memory full is = cc (full, is)
+
+    there : {place : Place} → fault ≡ Damaged (LinkPlace (number_told change)) → ◌≡◌ {A = Result T PageFault} (Err fault) (Err (Damaged place)) → LinkPlace (number_told change) ≡ place
+    there full is = cc (full, is)
 
 -- what was done, once it is seen whether pages were taken
 module _ {T : Type 0} {change : told.Change} {first put : PagesView} {before between after : CatalogView} {spare : ℕ} (place : Place) (result : Result T PageFault)

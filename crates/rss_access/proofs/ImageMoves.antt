@@ -50,17 +50,17 @@ use Rattle.rss_entries.proofs.Places.{may_move, places_same, rooms_same}
 
 -- ---- numbers of pages
 
-limit_low : (slots : ℕ) (space : Space) → slots < 4294967296 → number_limit slots space ≤ 4294967295
+limit_low : (slots : ℕ) (space : Space) → slots < 2 ^ 32 → number_limit slots space ≤ 4294967295
 limit_low slots Home few = omega arith
 limit_low slots Overflow few = omega arith
 limit_low slots ImageSpace few = omega arith
 limit_low slots System few = omega arith
 
 -- no page has the number that stands for no next leaf
-pub held_low : (pages : PagesView) (slots : ℕ) → slots < 4294967296 → pages.slots ≡ slots → ((key : PageKey) → is_some (pages.held key) ≡ pages.mapped key) → ((key : PageKey) → pages.mapped key ≡ true → IsKey pages.slots key) → AreLow pages.held
-held_low pages slots few same holds allowed key there =
+pub held_low : (pages : PagesView) → pages.slots < 2 ^ 32 → ((key : PageKey) → is_some (pages.held key) ≡ pages.mapped key) → ((key : PageKey) → pages.mapped key ≡ true → IsKey pages.slots key) → AreLow pages.held
+held_low pages few holds allowed key there =
     let is : IsKey pages.slots key = allowed key (sym (holds key) ∙ there) in
-    omega (arith, is.number, limit_low pages.slots key.space (omega (arith, same, few)))
+    omega (arith, is.number, limit_low pages.slots key.space few)
 
 -- ---- values and the bytes that tell them
 

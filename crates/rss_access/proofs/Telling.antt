@@ -34,7 +34,7 @@ use Rattle.rss_members.specs.declared.membership.Membership.{Membership}
 use Rattle.rss_members.specs.Calls.{NoneConnects, NoneDisconnects}
 use Rattle.rss_access.specs.Told.{IsTupleRecord, number_told, tid_told, values_before, values_after, body_before, IsPrefix, reversed, turned, ReverseMeans, AreValuesOf, MayBecome, MayCount}
 use Rattle.rss_access.specs.Changes.{AccessView, members, HasRoom, HasRoomFor, CanApply, CanUndo, ShowsMove, Misfits, applied, HasTables, CanAlter}
-use Rattle.rss_access.specs.Changes.Misfits.{tuple as tuple_misfits, room as room_misfits, count as count_misfits, unlisted, connect as connect_misfits, disconnect as disconnect_misfits}
+use Rattle.rss_access.specs.Changes.Misfits.{tuple as tuple_misfits, room as room_misfits, count as count_misfits, unlisted, chain_room, connect as connect_misfits, disconnect as disconnect_misfits}
 use Rattle.rss_access.specs.Tuples.{body_at}
 use Rattle.rss_access.proofs.ChainTables.{chain_none, chain_none_off}
 use Rattle.rss_access.proofs.Prefixed.{spelled_with, bodies_told, blank_gone, prefix_few}
@@ -329,27 +329,30 @@ none_tuple {at = at} {told_change = told_change} is misfits room tables change c
     by (room_misfits of there not) = not room
     by (count_misfits of there fitting found not) = not (subst (λ (entry : RelationEntry). MayCount told_change entry.live) (same there) (can_count told_change can r))
     by (unlisted of none) = absurd (none-some _ (sym none ∙ r.at))
+    by (chain_room of none) = of is
     by (connect_misfits of small not) = subst IsTupleRecord of is
     by (disconnect_misfits of small not) = subst IsTupleRecord of is
 
-none_connect : {at : AccessView} {link : ℕ} {parent left : Option Tid} {child : Tid} {place : Place} → Misfits (Connect link parent child left) at place → (tables : Tables) (change : Change) → CanApply at (Connect link parent child left) tables change → ⊥
-none_connect (tuple_misfits of there not) tables change can = absurd of
-none_connect (room_misfits of there not) tables change can = absurd of
-none_connect (count_misfits of there fitting found not) tables change can = absurd of
-none_connect (unlisted of none) tables change can = absurd of
-none_connect {at = at} {link = link} {parent = parent} {left = left} {child = child} (connect_misfits is small not) tables change can = chain_none small can (subst (NoneConnects (members at)) (same is) not)
+none_connect : {at : AccessView} {link : ℕ} {parent left : Option Tid} {child : Tid} {place : Place} → Misfits (Connect link parent child left) at place → HasRoom at 0 → (tables : Tables) (change : Change) → CanApply at (Connect link parent child left) tables change → ⊥
+none_connect (tuple_misfits of there not) room tables change can = absurd of
+none_connect (room_misfits of there not) room tables change can = absurd of
+none_connect (count_misfits of there fitting found not) room tables change can = absurd of
+none_connect (unlisted of none) room tables change can = absurd of
+none_connect (chain_room of none) room tables change can = none room
+none_connect {at = at} {link = link} {parent = parent} {left = left} {child = child} (connect_misfits is small not) room tables change can = chain_none small can (subst (NoneConnects (members at)) (same is) not)
   where
     same : {l : ℕ} {p f : Option Tid} {c : Tid} → Connect link parent child left ≡ Connect l p c f → ◌≡◌ {A = Membership} (record { link = l; parent = p; child = c; left = f }) (record { link = link; parent = parent; child = child; left = left })
     same is = cc
-none_connect (disconnect_misfits is small not) tables change can = absurd (cc)
+none_connect (disconnect_misfits is small not) room tables change can = absurd (cc)
 
-none_disconnect : {at : AccessView} {link : ℕ} {parent left : Option Tid} {child : Tid} {place : Place} → Misfits (Disconnect link parent child left) at place → (tables : Tables) (change : Change) → CanApply at (Disconnect link parent child left) tables change → ⊥
-none_disconnect (tuple_misfits of there not) tables change can = absurd of
-none_disconnect (room_misfits of there not) tables change can = absurd of
-none_disconnect (count_misfits of there fitting found not) tables change can = absurd of
-none_disconnect (unlisted of none) tables change can = absurd of
-none_disconnect (connect_misfits is small not) tables change can = absurd (cc)
-none_disconnect {at = at} {link = link} {parent = parent} {left = left} {child = child} (disconnect_misfits is small not) tables change can = chain_none_off small can (subst (NoneDisconnects (members at)) (same is) not)
+none_disconnect : {at : AccessView} {link : ℕ} {parent left : Option Tid} {child : Tid} {place : Place} → Misfits (Disconnect link parent child left) at place → HasRoom at 0 → (tables : Tables) (change : Change) → CanApply at (Disconnect link parent child left) tables change → ⊥
+none_disconnect (tuple_misfits of there not) room tables change can = absurd of
+none_disconnect (room_misfits of there not) room tables change can = absurd of
+none_disconnect (count_misfits of there fitting found not) room tables change can = absurd of
+none_disconnect (unlisted of none) room tables change can = absurd of
+none_disconnect (chain_room of none) room tables change can = none room
+none_disconnect (connect_misfits is small not) room tables change can = absurd (cc)
+none_disconnect {at = at} {link = link} {parent = parent} {left = left} {child = child} (disconnect_misfits is small not) room tables change can = chain_none_off small can (subst (NoneDisconnects (members at)) (same is) not)
   where
     same : {l : ℕ} {p f : Option Tid} {c : Tid} → Disconnect link parent child left ≡ Disconnect l p c f → ◌≡◌ {A = Membership} (record { link = l; parent = p; child = c; left = f }) (record { link = link; parent = parent; child = child; left = left })
     same is = cc
@@ -358,8 +361,8 @@ none_by : {at : AccessView} (told_change : told.Change) {place : Place} → Misf
 none_by (Insert number tid values) misfits room = none_tuple tt misfits room
 none_by (Delete number tid values) misfits room = none_tuple tt misfits room
 none_by (Update number tid from to) misfits room = none_tuple tt misfits room
-none_by (Connect link parent child left) misfits room = none_connect misfits
-none_by (Disconnect link parent child left) misfits room = none_disconnect misfits
+none_by (Connect link parent child left) misfits room = none_connect misfits room
+none_by (Disconnect link parent child left) misfits room = none_disconnect misfits room
 
 pub none_applies : {at : AccessView} {told_change : told.Change} {place : Place} → CanAlter at → IsTold at.pages.disk → (HasTables at → Misfits told_change at place) → HasRoomFor at told_change → (tables : Tables) (change : Change) → CanApply at told_change tables change → ⊥
 none_applies {told_change = told_change} may disk misfits room tables change can = none_by told_change (misfits (has_tables may disk can.spells can.fit)) room tables change can

@@ -1,5 +1,5 @@
 -- What a change of a tuple does, as a record of the log tells it: to the pages, to the catalog, and to the tables that these spell.
-use Rattle.std.specs.Prelude.{◌≡◌, ℕ, ◌+◌, ◌*◌, ◌^◌, ◌<◌, ◌≤◌, List, Option, Some, None, option_map, Result, Err, IsErrOf, OnOk, OnErr, ⊤}
+use Rattle.std.specs.Prelude.{◌≡◌, ℕ, ◌+◌, ◌*◌, ◌^◌, ◌<◌, ◌≤◌, List, Option, Some, None, option_map, Result, Err, IsErrOf, OnOk, OnErr}
 use Rattle.rss_base.specs.DiskRule.{IsTold}
 use Rattle.rss_base.specs.Faults.{Rises}
 use Rattle.rss_base.specs.Steps.{PagesView, Keys, PagesStep, no_page, pages_in}
@@ -9,7 +9,7 @@ use Rattle.rss_base.specs.Listings.{Listing, relation_at, link_at}
 use Rattle.rss_base.specs.declared.name.Name.{Name}
 use Rattle.rss_base.specs.declared.tid.Tid.{Tid}
 use Rattle.rss_base.specs.declared.place.Place.{Place}
-use Rattle.rss_base.specs.declared.place.Place.TheVariants.{Tuple as TuplePlace, Count as CountPlace}
+use Rattle.rss_base.specs.declared.place.Place.TheVariants.{Tuple as TuplePlace, Count as CountPlace, Link as LinkPlace}
 use Rattle.rss_base.specs.declared.fault.PageFault.{PageFault}
 use Rattle.rss_base.specs.declared.fault.PageFault.TheVariants.{Device as DeviceFailed, Damaged, NoMemory}
 use Rattle.rss_base.specs.declared.relation.RelationEntry.{RelationEntry}
@@ -68,13 +68,13 @@ pub record CanAlter (at : AccessView) : Type 0 where
 abbrev pub HasRoom : AccessView → ℕ → Type 0
 HasRoom at number = 2 + images_room at.catalog.listing number ≤ image_places at.pages
 
--- there is for the change: one of a chain needs none
+-- There is for the change. One of a chain puts no pair into an image: no relation has the number 0.
 abbrev pub HasRoomFor : AccessView → told.Change → Type 0
 HasRoomFor at (Insert relation tid values) = HasRoom at relation
 HasRoomFor at (Delete relation tid values) = HasRoom at relation
 HasRoomFor at (Update relation tid old new) = HasRoom at relation
-HasRoomFor at (Connect link parent child left) = ⊤
-HasRoomFor at (Disconnect link parent child left) = ⊤
+HasRoomFor at (Connect link parent child left) = HasRoom at 0
+HasRoomFor at (Disconnect link parent child left) = HasRoom at 0
 
 -- the tables with the change applied, or undone
 abbrev pub applied : Tables → Change → Tables
@@ -189,11 +189,12 @@ pub record AltersTuple (change : told.Change) (old new : AccessView) : Type 0 wh
       old.catalog new.catalog
   pub images : IsTold old.pages.disk → MovesAll old new change
 
--- A tuple came into a chain or went out of it, in whatever tables were spelled; no page was taken, and the link's ends are listed.
+-- A tuple came into a chain or went out of it, in whatever tables were spelled: there was room, but no page was taken; the link's ends are listed.
 pub record AltersChain (result : MembersView → MembersView → Type 0) (number : ℕ) (old new : AccessView) : Type 0 where
   pub link : LinkEntry
   pub listed : link_at old.catalog.listing number ≡ Some link
   pub small : old.pages.slots < 2 ^ 32
+  pub room : HasRoom old 0
   pub takes : IsTold old.pages.disk → TakesOnly no_page old.pages new.pages
   pub heaps : IsTold old.pages.disk → AreHeaps new.pages
   pub ends : Reends number link old.catalog new.catalog
@@ -229,6 +230,8 @@ pub data Misfits (change : told.Change) (at : AccessView) : Place → Type 0 whe
       → Misfits change at (CountPlace (number_told change))
   unlisted : IsTupleRecord change → relation_at at.catalog.listing (number_told change) ≡ None
       → Misfits change at (CountPlace (number_told change))
+  chain_room : (IsTupleRecord change → ⊥) → (HasRoom at 0 → ⊥)
+      → Misfits change at (LinkPlace (number_told change))
   connect : {link : ℕ} {parent left : Option Tid} {child : Tid} {place : Place}
       → change ≡ Connect link parent child left → at.pages.slots < 2 ^ 32
       → NoneConnects (members at) (record { link = link; parent = parent; child = child; left = left })

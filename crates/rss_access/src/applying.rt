@@ -38,8 +38,9 @@ use rss_tuple::{Store, Tuples};
 /// Where the tuple isn't as the change tells it, or can't become what it tells, or where there is no
 /// room, the fault is `Damaged` at the tuple; at the count of the relation, where that can't go with
 /// it or no such relation is defined; where the tuple can't come into the chain, or doesn't stand in
-/// it where the change tells, at the tuple or the link. Nothing is changed then. It takes two pages at
-/// most, and what its images need; a change of a chain takes none.
+/// it where the change tells, at the tuple or the link; and at the link, where there is no room for a
+/// change of a chain. Nothing is changed then. It takes two pages at most, and what its images need; a
+/// change of a chain takes none.
 pub fn apply<P: Pages>(
     tuples: &mut Store<P>,
     catalog: &mut Catalog,

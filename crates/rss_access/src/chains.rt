@@ -1,5 +1,6 @@
 // Changes of chains.
-ghost use Rattle.std.specs.Prelude.{◌≡◌, ◌^◌, ◌<◌, ◌≤◌, true, is_some, Some, IfSome, IfErr, OnOk, OnErr};
+ghost use Rattle.std.specs.Prelude.{◌≡◌, ◌<◌, ◌≤◌, ⊥, true, is_some, Some, IfSome, IfErr, OnOk, OnErr};
+ghost use Rattle.rss_base.specs.DiskRule.{IsTold};
 ghost use Rattle.rss_base.specs.Listings.{IsSpelled, link_at, with_link};
 ghost use Rattle.rss_base.specs.declared.change.Change.TheVariants.{Connect as ConnectTold};
 ghost use Rattle.rss_base.specs.declared.change.Change.TheVariants.{Disconnect as DisconnectTold};
@@ -8,15 +9,16 @@ ghost use Rattle.rss_base.specs.declared.link.LinkEntry.{LinkEntry as ALink};
 ghost use Rattle.rss_base.specs.declared.place.Place.TheVariants.{Link as LinkPlace};
 ghost use Rattle.rss_base.specs.declared.refusal.Kind.TheVariants.{Link as LinkKind};
 ghost use Rattle.rss_catalog.specs.Catalogs.{Lists, page_of, with_ends};
-ghost use Rattle.rss_access.specs.Changes.{both, CanAlter, Makes};
+ghost use Rattle.rss_access.specs.Changes.{both, CanAlter, HasTables, HasRoom, Makes};
 
+use crate::rooms::has_room;
 use rss_base::{Kind, PageFault, Pages, Place, Tid};
 use rss_catalog::Catalog;
 use rss_members::{Membership, connect, disconnect};
 use rss_tuple::Store;
 
-/// Puts a tuple into a chain: right behind `left`, or first. Where it can't come there, the fault is
-/// `Damaged`, and nothing is changed. No page is taken.
+/// Puts a tuple into a chain: right behind `left`, or first. Where it can't come there, or where there
+/// is no room, the fault is `Damaged`, and nothing is changed. No page is taken.
 pub(crate) fn put_in<P: Pages>(
     tuples: &mut Store<P>,
     catalog: &mut Catalog,
@@ -28,13 +30,15 @@ pub(crate) fn put_in<P: Pages>(
         (both (P.view tuples.old.pages) catalog.old) (both (P.view tuples.new.pages) catalog.new)
         result }
 {
+    try_room(&tuples.pages, catalog, membership.link)?;
     let before = Before::of(&tuples.pages, catalog, membership.link);
     connect(tuples, catalog, membership)?;
     before.settle(&tuples.pages, catalog, membership.link)
 }
 
 /// Takes a tuple out of the chain where it stands, right behind `left` or first. Where it doesn't
-/// stand there, the fault is `Damaged`, and nothing is changed. No page is taken.
+/// stand there, or where there is no room, the fault is `Damaged`, and nothing is changed. No page is
+/// taken.
 pub(crate) fn take_out<P: Pages>(
     tuples: &mut Store<P>,
     catalog: &mut Catalog,
@@ -46,9 +50,26 @@ pub(crate) fn take_out<P: Pages>(
         (both (P.view tuples.old.pages) catalog.old) (both (P.view tuples.new.pages) catalog.new)
         result }
 {
+    try_room(&tuples.pages, catalog, membership.link)?;
     let before = Before::of(&tuples.pages, catalog, membership.link);
     disconnect(tuples, catalog, membership)?;
     before.settle(&tuples.pages, catalog, membership.link)
+}
+
+/// Tests that there is room for a change of a chain of the link. It puts no pair into an image, and no
+/// relation has the number 0.
+fn try_room<P: Pages>(pages: &P, catalog: &Catalog, link: u8) -> Result<(), PageFault>
+    ensures room { OnOk result (HasRoom (both (P.view pages.now) catalog.now) 0) }
+    ensures place { IfErr result (λ fault. fault ≡ PageDamaged (LinkPlace link)) }
+    ensures none { OnErr result (IsTold (P.view pages.now).disk
+        → HasTables (both (P.view pages.now) catalog.now)
+        → HasRoom (both (P.view pages.now) catalog.now) 0 → ⊥) }
+{
+    if has_room(pages, catalog, 0) {
+        Ok(())
+    } else {
+        Err(PageFault::Damaged(Place::Link(link)))
+    }
 }
 
 /// How many pages were spare before a chain was changed, and the ends that its link had.
@@ -61,15 +82,12 @@ struct Before {
 
 impl Before {
     fn of<P: Pages>(pages: &P, catalog: &Catalog, link: u8) -> Self
-        ensures small { (P.view pages.now).slots < 2 ^ 32 }
         ensures spare { result.spare ≡ (P.view pages.now).spare }
         ensures ends { (entry : ALink) → link_at catalog.now.listing link ≡ Some entry
             → (result.first ≡ entry.first) × (result.last ≡ entry.last) }
         ensures first { IfSome result.first IsSpelled }
         ensures last { IfSome result.last IsSpelled }
     {
-        // Numbers of pages are below this.
-        let _slots = pages.slots();
         let spare = pages.spare();
         if !catalog.used(Kind::Link, link) {
             return Before {

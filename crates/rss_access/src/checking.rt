@@ -47,8 +47,6 @@ pub fn check_image<P: Pages>(
         → AreHeaps (P.view tuples.new.pages)) }
     ensures did { LooksAt (P.view tuples.old.pages) (P.view tuples.new.pages) result }
 {
-    // Numbers of pages are below this, so none of them is the one that stands for no page.
-    let _slots = tuples.pages.slots();
     let damaged = PageFault::Damaged(Place::Image(number));
     let entry = *catalog.image(number);
     let relation = catalog.relation(entry.relation);
@@ -174,8 +172,6 @@ fn has_pair<P: Pages>(
     ensures did { PagesCall no_page (image.now.levels + 1) (image.now.levels + 1)
         (P.view pages.old) (P.view pages.new) result }
 {
-    // A number of four bytes, which bounds the numbers of pages.
-    let _slots = pages.slots();
     if !spells(key.fields, bytes) {
         return Ok(false);
     }

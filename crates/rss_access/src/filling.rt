@@ -56,8 +56,6 @@ pub fn entries_of<P: Pages>(
         → AreHeaps (P.view tuples.new.pages)) }
     ensures did { SearchesPages (P.view tuples.old.pages) (P.view tuples.new.pages) result }
 {
-    // A number of four bytes, which bounds those of pages.
-    let _slots = tuples.pages.slots();
     let relation = catalog.relation(number);
     let damaged = PageFault::Damaged(Place::Count(number));
     if relation.live > TUPLES_MOST {

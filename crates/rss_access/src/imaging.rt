@@ -81,8 +81,6 @@ pub fn find_owner<P: Pages>(
         → PagesCall no_page (2 * (image.levels + 1)) (2 * (image.levels + 1))
         (P.view tuples.old.pages) (P.view tuples.new.pages) result }
 {
-    // Numbers of pages are below this, so none of them is the one that stands for no page.
-    let _slots = tuples.pages.slots();
     let image = image_of(catalog, number);
     let key = key_fields(catalog, number);
     owner_in(&mut tuples.pages, &image, key, values, own)
@@ -111,8 +109,6 @@ pub fn next_entry<P: Pages>(
         → PagesCall no_page (image.levels + 1) (image.levels + 1)
         (P.view tuples.old.pages) (P.view tuples.new.pages) result }
 {
-    // Numbers of pages are below this, so none of them is the one that stands for no page.
-    let _slots = tuples.pages.slots();
     let image = image_of(catalog, number);
     next_pair(&mut tuples.pages, &image, start, last)
 }

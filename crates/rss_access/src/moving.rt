@@ -117,8 +117,6 @@ fn move_image<P: Pages>(
     ensures did { PagesCall (image_pages_of (relation_at catalog.old.listing change.entry.number))
         image_cost image_cost (P.view pages.old) (P.view pages.new) result }
 {
-    // Numbers of pages are below this, so none of them is the one that stands for no page.
-    let _slots = pages.slots();
     let mut image = image_of(catalog, number);
     let key = key_fields(catalog, number);
     move_entry(

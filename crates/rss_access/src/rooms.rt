@@ -26,8 +26,6 @@ pub(crate) fn has_room<P: Pages>(pages: &P, catalog: &Catalog, number: u8) -> bo
         → HasTables (both (P.view pages.now) catalog.now)
         → HasRoom (both (P.view pages.now) catalog.now) number → ⊥ }
 {
-    // Numbers of pages are below this, so none of them is the one that stands for no page.
-    let _slots = pages.slots();
     let spare = pages.spare();
     let places = u64::from(spare) + u64::from(pages.image_pages());
     spare >= PAGES_TAKEN && u64::from(PAGES_TAKEN) + images_room(catalog, number) <= places

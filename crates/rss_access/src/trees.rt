@@ -69,8 +69,6 @@ pub fn take_image<P: Pages>(
         (inner_most (width_of image relation) (image.levels - 1))
         (P.view pages.old) (P.view pages.new) result }
 {
-    // Numbers of pages are below this, so none of them is the one that stands for no page.
-    let _slots = pages.slots();
     let image = image_of(catalog, number);
     image.destroy(pages)?;
     catalog.remove(Kind::Image, number);

@@ -18,7 +18,7 @@ use Rattle.rss_image.specs.Images.{nodes_of, pages_of, pairs_most, page_bound, B
 use Rattle.rss_image.specs.declared.image.Image.{Image}
 use Rattle.rss_image.proofs.Putting.{spell_one}
 use Rattle.rss_model.proofs.Saving.{more_bound}
-use Rattle.rss_entries.specs.Building.{pair_list, AreRising, Built}
+use Rattle.rss_entries.specs.Building.{pair_list, AreRising, BuildsMade}
 
 -- ---- the next pair of a list that rises
 
@@ -102,6 +102,11 @@ module _ (image : Image) {old between : PagesView} {own : List ℕ} {few : List 
       }
 
 -- ---- what was built
+
+-- The image has these pairs, in pages that weren't mapped, and passes the tests that they pass.
+pub record Built (image : Image) (old new : PagesView) (pairs : List (List ℕ)) : Type 0 where
+  pub becomes : Becomes image image old new [] pairs
+  pub made : BuildsMade image pairs new
 
 -- a new image without pairs
 pub starts_built : {image : Image} {old new : PagesView} → Becomes image image old new [] [] → StartsMade image new → Built image old new []

@@ -1,10 +1,10 @@
 -- An image, built from pairs that rise.
-use Rattle.std.specs.Prelude.{◌≡◌, ℕ, Bool, true, List, [], map}
+use Rattle.std.specs.Prelude.{◌≡◌, ℕ, Bool, true, List, map}
 use Rattle.rss_base.specs.Steps.{PagesView}
 use Rattle.rss_base.specs.declared.tid.Tid.{Tid}
 use Rattle.rss_levels.specs.Entries.{Each, IsLess, Pairwise, zeros}
 use Rattle.rss_node.specs.Pairs.{pair_bytes}
-use Rattle.rss_image.specs.Images.{AreAllMade, Becomes}
+use Rattle.rss_image.specs.Images.{AreAllMade}
 use Rattle.rss_image.specs.declared.image.Image.{Image}
 
 -- the pairs as bytes
@@ -19,8 +19,3 @@ AreRising pairs = Pairwise IsLess (pair_list pairs)
 abbrev pub BuildsMade : Image → List (List ℕ) → PagesView → Type 0
 BuildsMade image pairs view =
     (good : List ℕ → Bool) → good (zeros image.width) ≡ true → Each (λ p. good p ≡ true) pairs → AreAllMade good image view.held
-
--- The image has these pairs, in pages that weren't mapped, and passes the tests that they pass.
-pub record Built (image : Image) (old new : PagesView) (pairs : List (List ℕ)) : Type 0 where
-  pub becomes : Becomes image image old new [] pairs
-  pub made : BuildsMade image pairs new

@@ -12,12 +12,12 @@ use Rattle.rss_link.specs.Blocks.{IsPointer, IsStanding}
 use Rattle.rss_link.specs.Chains.{Linkage, Stands, IsOutside, IsParent, with_list, relinked}
 use Rattle.rss_link.specs.Links.{Says, AreApart, SpellChains, KeepBodies}
 use Rattle.rss_link.specs.Calls.{LinkView, seen_with, TellsBodies, spot, Relinks}
-use Rattle.rss_link.specs.Edits.{IsFreeAt, FindsNext, HasPointer, IsTurnOf, turn, Restates, Turns}
+use Rattle.rss_link.specs.Edits.{FindsNext, HasPointer, IsTurnOf, turn, Restates, Turns}
 use Rattle.rss_link.proofs.TupleSteps.{TuplesStep, told_then, same_bodies}
 use Rattle.rss_link.proofs.Lists.{last_behind, list_here}
 use Rattle.rss_link.proofs.Meaning.{says_one, says_within}
 use Rattle.rss_link.proofs.Puts.{parent_kind, some_parent}
-use Rattle.rss_link.proofs.Splices.{IsSplice, length_cons, left_stands, right_stands, stands_once, seams_old, stands_nowhere, seams_off}
+use Rattle.rss_link.proofs.Splices.{IsFreeAt, IsSplice, length_cons, left_stands, right_stands, stands_once, seams_old, stands_nowhere, seams_off}
 use Rattle.rss_link.proofs.Relinked.{left_child, right_child, has_left, has_right, relinks}
 use Rattle.std.proofs.lemmas.List.{append-nil}
 

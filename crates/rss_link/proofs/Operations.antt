@@ -12,9 +12,8 @@ use Rattle.rss_link.specs.Blocks.{neighbours}
 use Rattle.rss_link.specs.Chains.{Lists, Linkage, Stands, relinked}
 use Rattle.rss_link.specs.Links.{SpellChains}
 use Rattle.rss_link.specs.Calls.{LinkView, spot, IsChildOf, IsFree, Relinks}
-use Rattle.rss_link.specs.Edits.{IsFreeAt}
 use Rattle.rss_link.proofs.Lists.{last_from, last_is_from, last_behind, false_true, false_where, eqb_itself}
-use Rattle.rss_link.proofs.Splices.{length_cons}
+use Rattle.rss_link.proofs.Splices.{IsFreeAt, length_cons}
 
 -- ---- whether two are one
 

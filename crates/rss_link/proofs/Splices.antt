@@ -5,9 +5,18 @@ use Rattle.rss_base.specs.declared.tid.Tid.{Tid}
 use Rattle.rss_base.specs.Prefixes.{Ends, first_of, last_of, ends_of}
 use Rattle.rss_link.specs.declared.blocks.Standing.{Standing}
 use Rattle.rss_link.specs.declared.blocks.Standing.TheVariants.{Outside, Within}
+use Rattle.rss_link.specs.declared.link.Chains.{Chains}
+use Rattle.rss_link.specs.Calls.{Spot}
+use Rattle.rss_link.specs.Edits.{IsParted}
 use Rattle.rss_link.specs.Chains.{Lists, Linkage, Stands, StandsAs, IsOutside, IsParent, IsPlaced, AreChains, with_list, relinked}
 use Rattle.rss_link.proofs.Lists.{Cut, early, late, cut, tid_cases, place_cases, list_here, list_off, last_is, first_is, last_behind, last_from}
 use Rattle.rss_link.proofs.Meaning.{says_within}
+
+-- the child stands in no chain, and this is the spot's chain, parted where the child is to stand
+pub record IsFreeAt (link : Chains) (linkage : Linkage) (spot : Spot) (before after : List Tid) : Type 0 where
+  pub child : linkage.children spot.child ≡ true
+  pub outside : IsOutside linkage.lists spot.child
+  pub parted : IsParted link linkage spot.parent spot.left before after
 
 -- what is at hand where the middle of the chain of a parent, between two parts, is another now, and in both is one child at most
 pub record IsSplice (linkage : Linkage) (parent : Option Tid) (before mid now after : List Tid) (child : Tid) : Type 0 where

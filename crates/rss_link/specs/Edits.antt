@@ -11,9 +11,9 @@ use Rattle.rss_link.specs.declared.blocks.Standing.TheVariants.{Outside, Within}
 use Rattle.rss_link.specs.declared.blocks.Pointer.{Pointer}
 use Rattle.rss_link.specs.declared.blocks.Pointer.TheVariants.{Next, Previous}
 use Rattle.rss_link.specs.Blocks.{IsStanding, IsPointer}
-use Rattle.rss_link.specs.Chains.{Linkage, IsOutside, IsParent}
+use Rattle.rss_link.specs.Chains.{Linkage, IsParent}
 use Rattle.rss_link.specs.Links.{Says, SaysEnds, SpellChains, KeepBodies}
-use Rattle.rss_link.specs.Calls.{LinkView, HoldsHeaps, TellsBodies, Spot}
+use Rattle.rss_link.specs.Calls.{LinkView, HoldsHeaps, TellsBodies}
 
 -- ---- where a child is put
 
@@ -22,12 +22,6 @@ pub record IsParted (link : Chains) (linkage : Linkage) (parent left : Option Ti
   pub is_parent : IsParent link.unary linkage.parents parent
   pub is : linkage.lists parent ≡ before ++ after
   pub behind : left ≡ last_of before
-
--- the child stands in no chain, and this is the spot's chain, parted where the child is to stand
-pub record IsFreeAt (link : Chains) (linkage : Linkage) (spot : Spot) (before after : List Tid) : Type 0 where
-  pub child : linkage.children spot.child ≡ true
-  pub outside : IsOutside linkage.lists spot.child
-  pub parted : IsParted link linkage spot.parent spot.left before after
 
 -- ---- what may be read
 

@@ -22,8 +22,10 @@ use Rattle.rss_model.specs.Locks.{Locks, Claim, Bar, claim, claim_cmp, held, bar
 use Rattle.rss_model.proofs.Contents.{tied, same_item_of}
 use Rattle.rss_model.proofs.Codes.{item_total, item_apart}
 use Rattle.rss_lock.specs.Locks.{IsFirstBar, is_barred}
-use Rattle.rss_lock.specs.Table.{Modes, Bars, Holds, IsBarred, IsFree, IsUnbarred, IsLeast, IsLeastOf}
+use Rattle.rss_lock.specs.Table.{Modes, Bars, Holds, IsUnbarred, IsLeast, IsLeastOf}
 use Rattle.rss_lock.proofs.Least.{least_kept}
+use Rattle.rss_lock.proofs.Granting.{IsFree}
+use Rattle.rss_lock.proofs.Listing.{IsBarred}
 use Rattle.rss_lock.proofs.Machine.{Says, claim_total, claim_apart, tied_claim}
 use mathlib.Core.Bool.{true≢false}
 

@@ -1,6 +1,6 @@
 -- What is granted to one transaction leaves the others as they are, and disagrees with none of them.
 use Rattle.std.proofs.Common.{◌≡◌, ◌≢◌, ◌⊎◌, inl, inr, ℕ, suc, Bool, true, false, cond, ◌&&◌, ◌||◌, List, ◌∷◌, get_or, refl, sym, ◌∙◌, ap, subst, arith, eqb-true, eq-eqb}
-use Rattle.std.specs.Prelude.{Option, Some, None, ◌==◌, is_some, Contains}
+use Rattle.std.specs.Prelude.{Option, Some, None, ◌==◌, is_some, All, Contains}
 use Rattle.rss_base.specs.declared.item.Item.{Item}
 use Rattle.rss_base.specs.declared.need.Mode.{Mode}
 use Rattle.rss_base.specs.declared.need.Need.{Need}
@@ -8,7 +8,7 @@ use Rattle.rss_base.specs.Items.{same_item}
 use Rattle.rss_base.proofs.Equal.{item_decides}
 use Rattle.rss_model.specs.Locks.{disagree, with_mode}
 use Rattle.rss_model.proofs.Modes.{disagree_alike, joins_disagree}
-use Rattle.rss_lock.specs.Table.{Modes, AllAgree, HoldersAreFew, IsFree, IsUnbarred, set_mode, given, without}
+use Rattle.rss_lock.specs.Table.{Modes, AllAgree, HoldersAreFew, IsUnbarred, set_mode, given, without}
 use mathlib.Core.Bool.{true≢false}
 
 cases : (b : Bool) → (b ≡ true) ⊎ (b ≡ false)
@@ -125,6 +125,10 @@ given_few mode t need few = record {
 }
 
 -- ---- the first of several needs, and the others
+
+-- nobody bars t from any of them
+abbrev pub IsFree : Modes → ℕ → List Need → Type 0
+IsFree mode t needs = All (IsUnbarred mode t) needs
 
 pub first_free : (mode : Modes) (t : ℕ) (needs : List Need) (need : Need) (rest : List Need) → needs ≡ need ∷ rest → IsFree mode t needs → IsUnbarred mode t need
 first_free mode t needs need rest is free = let all : IsFree mode t (need ∷ rest) = subst (IsFree mode t) is free in all 0 need (omega arith)

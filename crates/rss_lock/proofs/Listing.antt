@@ -1,5 +1,5 @@
 -- The tuples that others hold, gathered from the items of a lock table.
-use Rattle.std.proofs.Common.{◌≡◌, ◌⊎◌, inl, inr, ◌↔◌, ℕ, Bool, true, List, [], ◌∷◌, ◌++◌, get_or, refl, sym, ◌∙◌, ap, subst, arith, append_assoc}
+use Rattle.std.proofs.Common.{◌≡◌, ◌≢◌, ◌⊎◌, inl, inr, ◌↔◌, ℕ, Bool, true, List, [], ◌∷◌, ◌++◌, get_or, refl, sym, ◌∙◌, ap, subst, arith, append_assoc}
 use Rattle.std.specs.Prelude.{nat_eq, Option, Some, None, is_some, All, Contains}
 use Rattle.std.specs.Cmp.{IsTotalOrder, decided, nat_cmp_total, unsigned_ties}
 use Rattle.std.proofs.Common.{◌&&◌}
@@ -23,11 +23,19 @@ use Rattle.rss_base.proofs.Equal.{item_decides, same_tid, tid_decides}
 use Rattle.rss_lock.specs.declared.places.Holder.{Holder}
 use Rattle.rss_lock.specs.declared.places.Grants.{Grants}
 use Rattle.rss_lock.specs.Locks.{tid_cmp}
-use Rattle.rss_lock.specs.Table.{IsBarred, Table, held_in, grants_on, mode_of, IsTable, BarsTid, Disagrees}
+use Rattle.rss_lock.specs.Table.{Modes, Holds, Table, held_in, grants_on, mode_of, IsTable, BarsTid, Disagrees}
 use Rattle.rss_lock.proofs.Barring.{some_held, from_place, to_place}
 
 abbrev pub Entry : Type 0
 Entry = Item × Grants
+
+-- another transaction holds a lock on this identifier in one of the relations
+pub record IsBarred (mode : Modes) (t : ℕ) (relations : List Name) (tid : Tid) : Type 0 where
+  pub relation : Name
+  pub listed : Contains relations relation
+  pub other : ℕ
+  pub another : other ≢ t
+  pub holds : Holds mode (Tuple relation tid) other
 
 module _ (holders : List (Option Holder)) (t : ℕ) (relations : List Name) where
   -- one of these items is the tuple, and another transaction holds it

@@ -18,7 +18,7 @@ use Rattle.rss_model.proofs.Contents.{tied}
 use Rattle.rss_lock.specs.declared.places.Holder.{Holder}
 use Rattle.rss_lock.specs.declared.places.Grants.{Grants}
 use Rattle.rss_lock.specs.Locks.{AreFew}
-use Rattle.rss_lock.specs.Table.{Modes, AllAgree, HoldersAreFew, given, given_all, without, Table, table, is_of, held_in, grants_on, mode_of, add_lock, add_item, add_items, locks_of}
+use Rattle.rss_lock.specs.Table.{Modes, AllAgree, HoldersAreFew, given, without, Table, table, is_of, held_in, grants_on, mode_of, add_lock, add_item, add_items, locks_of}
 use Rattle.rss_lock.proofs.Holding.{held_none}
 use mathlib.Core.Bool.{true≢false}
 
@@ -167,6 +167,11 @@ says_given : (locks : Locks) (mode : Modes) (t : ℕ) (need : Need) → Says loc
 says_given locks mode t need says u item =
     get-insert claim_total locks (claim t need.item) (with_mode (held locks t need.item) need.mode) (claim u item)
     ∙ (λ i. cond (claim_test u t item need.item i) (Some (with_mode (says t need.item i) need.mode)) (says u item i))
+
+-- t gets all that it needs
+abbrev pub given_all : ℕ → List Need → Modes → Modes
+given_all t [] mode = mode
+given_all t (need ∷ needs) mode = given_all t needs (given mode t need)
 
 says_given_all : (t : ℕ) (needs : List Need) (locks : Locks) (mode : Modes) → Says locks mode → Says (granted t needs locks) (given_all t needs mode)
 says_given_all t [] locks mode says = says

@@ -1,5 +1,5 @@
 -- A lock table: the places of transactions, and who holds each item.
-use Rattle.std.specs.Prelude.{◌≡◌, ◌≢◌, ℕ, ◌+◌, ◌-◌, ◌^◌, ◌<◌, ◌≤◌, min, Bool, true, false, nat_le, ◌==◌, ◌&&◌, if◌then◌else◌, List, [], ◌∷◌, length, replicate, slice_set, slice_index_or, Option, Some, None, is_some, is_none, IsSome, All, Contains}
+use Rattle.std.specs.Prelude.{◌≡◌, ◌≢◌, ℕ, ◌+◌, ◌-◌, ◌^◌, ◌<◌, ◌≤◌, min, Bool, true, false, nat_le, ◌==◌, ◌&&◌, if◌then◌else◌, List, [], ◌∷◌, length, replicate, slice_set, slice_index_or, Option, Some, None, is_some, is_none, IsSome, Contains}
 use Rattle.std.specs.List.{list_any, AllByRecursion}
 use Rattle.std.specs.Map.{lookup}
 use Rattle.std.specs.FinMap as finite
@@ -42,9 +42,6 @@ pub record Bars (mode : Modes) (t : ℕ) (need : Need) (other : ℕ) : Type 0 wh
 abbrev pub IsUnbarred : Modes → ℕ → Need → Type 0
 IsUnbarred mode t need = (other : ℕ) → Bars mode t need other → ⊥
 
-abbrev pub IsFree : Modes → ℕ → List Need → Type 0
-IsFree mode t needs = All (IsUnbarred mode t) needs
-
 -- the least number of which the fact holds
 pub record IsLeast (P : ℕ → Type 0) (n : ℕ) : Type 0 where
   pub here : P n
@@ -62,10 +59,6 @@ set_mode mode t item to u other = if (u == t) && same_item item other then Some 
 abbrev pub given : Modes → ℕ → Need → Modes
 given mode t need = set_mode mode t need.item (with_mode (mode t need.item) need.mode)
 
-abbrev pub given_all : ℕ → List Need → Modes → Modes
-given_all t [] mode = mode
-given_all t (need ∷ needs) mode = given_all t needs (given mode t need)
-
 -- t holds nothing any longer
 abbrev pub without : ℕ → Modes → Modes
 without t mode u item = if u == t then None else mode u item
@@ -76,14 +69,6 @@ pub record HoldersAreFew (mode : Modes) (t : ℕ) : Type 0 where
   pub few : length among ≤ holders_most
   pub own : Contains among t
   pub holders : (u : ℕ) (item : Item) → Holds mode item u → Contains among u
-
--- another transaction holds a lock on this identifier in one of the relations
-pub record IsBarred (mode : Modes) (t : ℕ) (relations : List Name) (tid : Tid) : Type 0 where
-  pub relation : Name
-  pub listed : Contains relations relation
-  pub other : ℕ
-  pub another : other ≢ t
-  pub holds : Holds mode (Tuple relation tid) other
 
 -- ---- the table
 

@@ -45,7 +45,6 @@ fn blank_block(link: &LinkEntry, relation: u8) -> &'static [u8]
 /// How many bytes the blocks of so many links have in the body of a tuple, by the number of its
 /// relation.
 fn blocks_len(catalog: &Catalog, relation: u8, links: u8) -> usize
-    requires { links ≤ links_most }
     ensures is { result ≡ prefix_size (take links catalog.now.listing.links) relation }
     ensures small { result ≤ links * 18 }
 {
@@ -83,8 +82,6 @@ fn block_at(catalog: &Catalog, number: u8, relation: u8) -> u16
     requires { is_some (link_at catalog.now.listing number) ≡ true }
     ensures { result ≡ block_at catalog.now.listing number relation }
 {
-    // No link has a number above the last one's.
-    let _last = catalog.last_link();
     1 + blocks_len(catalog, relation, number - 1) as u16
 }
 

@@ -11,7 +11,7 @@ use Rattle.rss_base.specs.declared.item.Item.{Item}
 use Rattle.rss_base.specs.declared.need.Mode.{Mode}
 use Rattle.rss_base.specs.declared.call.Call.{Call}
 use Rattle.rss_base.specs.declared.call.Call.TheVariants.{Fetch, Parent, Lock}
-use Rattle.rss_model.specs.Tables.{Tables, Definitions, Contents, content, tuple_count}
+use Rattle.rss_model.specs.Tables.{Tables, Contents, content, tuple_count}
 use Rattle.rss_model.specs.Changes.{Change, own, after, Chained, is_delete_of}
 use Rattle.rss_model.specs.Fits.{Fits}
 use Rattle.rss_model.specs.Locks.{claim_cmp, Locks, held}
@@ -24,7 +24,7 @@ use Rattle.rss_model.specs.Rules.{saved_now}
 use Rattle.rss_model.specs.Defining.{defined, DefinesNames}
 use Rattle.rss_model.specs.Steps.{is_open, refusal, locked_by, keeps_locks, redefined}
 use Rattle.rss_model.specs.Steps.StepBy.{refuses, begins, saves, restores, ends, aborts, inserts, fetches, updates, deletes, connects, disconnects, finds, finds_none, opens, gives, stops, closes, locks, checkpoints, defines}
-use Rattle.rss_model.specs.Kept.{up_to, IsGuarded, Kept, StepsKeep, RestKeeps, KeptFit, EachFits, MixturesFit, FirstFindsBase, LastLeavesNow, OwnersAreAlone, StepsLeaveSize}
+use Rattle.rss_model.specs.Kept.{up_to, IsGuarded, Kept, StepsKeep, RestKeeps, KeptFit, EachFits, FirstFindsBase, LastLeavesNow, OwnersAreAlone, StepsLeaveSize}
 use Rattle.rss_model.proofs.Committing.{locked_size}
 use Rattle.rss_model.proofs.LogLists.{by_same}
 use Rattle.rss_model.proofs.LogChanging.{put_here, put_other}
@@ -161,9 +161,6 @@ rest_keeps size tables state rest fit =
 
 pub kept_fit : KeptFit
 kept_fit state kept = (base_fits state kept.fit, now_fits state kept.fit)
-
-pub mixtures_fit : MixturesFit
-mixtures_fit state counts kept = kept.fit counts
 
 too_few : (n : ℕ) → nat_le (suc n) n ≡ false
 too_few n = grind (arith, nat_tests)

@@ -143,11 +143,6 @@ KeptFit = (state : State) → Kept state → Fits state.size.slots state.base ×
 abbrev pub EachFits : Type 0
 EachFits = (state : State) (transaction : ℕ) → Kept state → FitOnTheWay state transaction
 
--- the committed tables fit with any of the transactions' changes up to some time of each
-abbrev pub MixturesFit : Type 0
-MixturesFit = (state : State) (counts : ℕ → ℕ) → Kept state
-    → Fits state.size.slots (with_changes state.base (up_to counts state.changes))
-
 -- the first change of an item found what is committed
 abbrev pub FirstFindsBase : Type 0
 FirstFindsBase = (state : State) (change : Change) (newer older : List Change) → Kept state

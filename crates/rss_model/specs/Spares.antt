@@ -9,11 +9,10 @@ use Rattle.rss_base.specs.StoredPages.{mapped_by}
 use Rattle.rss_base.specs.TupleTypes.{kinds, chosen, key_width}
 use Rattle.rss_base.specs.Listings.{Listing, field_numbers, relation_at}
 use Rattle.rss_base.specs.declared.key.Space.TheVariants.{Image}
-use Rattle.rss_base.specs.declared.name.Name.{Name}
 use Rattle.rss_base.specs.declared.image.ImageEntry.{ImageEntry}
 use Rattle.rss_base.specs.declared.relation.RelationEntry.{RelationEntry}
 use Rattle.rss_model.specs.Tables.{Definitions}
-use Rattle.rss_model.specs.Meter.{Traffic, Meter, bound_of, entries_most, pages_of_image, room_number}
+use Rattle.rss_model.specs.Meter.{Meter, bound_of, pages_of_image, room_number}
 
 -- ---- pages of the images of a listing
 
@@ -34,11 +33,6 @@ listed_bound listing entries = sum_by (bound_at listing entries) listing.images
 -- how many tuples the relation of a number has
 abbrev pub live_of : Listing → ℕ → ℕ
 live_of listing number = unwrap_or (option_map (λ relation. relation.live) (relation_at listing number)) 0
-
--- and how many entries the meter allows its images
-abbrev pub most_of : Listing → (Name → Traffic) → ℕ → ℕ
-most_of listing traffic number =
-    unwrap_or (option_map (λ relation. entries_most (traffic relation.name)) (relation_at listing number)) 0
 
 -- ---- what is counted
 

@@ -9,7 +9,7 @@ ghost use Rattle.rss_model.specs.Recovers.{NamesLists, Recovers, Restarts};
 ghost use Rattle.rss_model.specs.Ties.{Undoes, Log, records, lists, pushed, saved, checkpointed, cut_own, StandsAt, Ties};
 ghost use Rattle.rss_model.specs.Changes.{UndoTurnsBack};
 ghost use Rattle.rss_model.specs.Commits.{CommitsOnly, OpenLeavesNoTrace};
-ghost use Rattle.rss_model.specs.Kept.{SavingNeedsNoMore, StepsKeep, RestKeeps, StepsLeaveSize, KeptFit, EachFits, MixturesFit, FirstFindsBase, LastLeavesNow, OwnersAreAlone, StepsKeepRoom};
+ghost use Rattle.rss_model.specs.Kept.{SavingNeedsNoMore, StepsKeep, RestKeeps, StepsLeaveSize, KeptFit, EachFits, FirstFindsBase, LastLeavesNow, OwnersAreAlone, StepsKeepRoom};
 ghost use Rattle.rss_model.specs.Ruled.{RulingIsExact, RulingLetsThrough, MeterFollows, SavingFirstPasses, SavedGoesOn, ChangesKeepRooms, CheckpointsKeepRooms, CheckpointsPassAtRest, RestoresKeepRooms, AbortsKeepRooms, EndsKeepRooms, DefinitionsKeepRooms, StepsKeepRooms};
 ghost use Rattle.rss_model.specs.Ruled.{ChangesFitLog, WaysBackFitLog, EndsFitLog, CheckpointsFitLog};
 ghost use Rattle.rss_model.specs.Locks.{JoinDisagrees};
@@ -34,12 +34,12 @@ pub fn steps_keep()
     ensures size { StepsLeaveSize }
 {}
 
-/// The committed tables, those now, and each mixture between them fit. An item is changed by one
-/// transaction alone, from what is committed to what is there now.
+/// The committed tables fit, those now, and the committed ones with what one transaction had made at
+/// any time. An item is changed by one transaction alone, from what is committed to what is there
+/// now.
 pub fn kept_tables()
     ensures fit { KeptFit }
     ensures each { EachFits }
-    ensures mixtures { MixturesFit }
     ensures first { FirstFindsBase }
     ensures last { LastLeavesNow }
     ensures owners { OwnersAreAlone }

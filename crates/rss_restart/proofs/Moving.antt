@@ -3,6 +3,7 @@ use Rattle.std.proofs.Common.{◌≡◌, ℕ, ◌+◌, List, [], ◌∷◌, sym,
 use Rattle.std.specs.Prelude.{true, Option, Some, unwrap_or}
 use Rattle.std.specs.List.{AllByRecursion}
 use Rattle.std.proofs.lemmas.List.Sums.{sum_by-cons}
+use Rattle.std.proofs.lemmas.Option.{none-some}
 use Rattle.rss_base.specs.DiskRule.{IsTold}
 use Rattle.rss_base.specs.Listings.{Listing, relation_at}
 use Rattle.rss_base.specs.declared.name.Name.{Name}
@@ -79,13 +80,13 @@ tells_of listing told_change is relation at = by told_change is (named (number_t
     by (Connect link parent child left) is same = absurd is
     by (Disconnect link parent child left) is same = absurd is
 
--- there is room for a change, where there is for one of a tuple
-room_for : (at : AccessView) (change : told.Change) → (IsTupleRecord change → HasRoom at (number_told change)) → HasRoomFor at change
-room_for at (Insert number tid values) room = room tt
-room_for at (Delete number tid values) room = room tt
-room_for at (Update number tid from to) room = room tt
-room_for at (Connect link parent child left) room = tt
-room_for at (Disconnect link parent child left) room = tt
+-- there is room for a change, where there is for one of a tuple and for one of a chain
+room_for : (at : AccessView) (change : told.Change) → (IsTupleRecord change → HasRoom at (number_told change)) → HasRoom at 0 → HasRoomFor at change
+room_for at (Insert number tid values) room room_chain = room tt
+room_for at (Delete number tid values) room room_chain = room tt
+room_for at (Update number tid from to) room room_chain = room tt
+room_for at (Connect link parent child left) room room_chain = room_chain
+room_for at (Disconnect link parent child left) room room_chain = room_chain
 
 -- ---- the first of the changes that can be made
 
@@ -117,6 +118,7 @@ module _ {log : LogView} {at : AccessView} {tables : Tables} {m : Move} {moves :
       has_room at (number_told (directed m.next.way m.told_change)) (moves_of (m ∷ moves))
       (λ relation is. omega (arith, counts_one tuple relation is))
       (omega (arith, can.room)))
+      (has_room at 0 (moves_of (m ∷ moves)) (λ relation none. absurd (none-some relation none)) (omega (arith, can.room)))
 
   -- it is one that can be made
   pub no_step_walks : NoStep log m.next at → ⊥

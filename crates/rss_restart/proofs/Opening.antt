@@ -24,10 +24,10 @@ use Rattle.rss_model.specs.Records.{LogEntry, Changed, Restore, End, Abort, Chec
 use Rattle.rss_model.specs.Restart.{stays}
 use Rattle.rss_model.specs.Recovers.{WayFits}
 use Rattle.rss_model.specs.Meanings.{Logged, as_bytes, as_entries, is_change, is_change_of, is_redone, IsLogged}
-use Rattle.rss_model.specs.Spares.{ChangeCounts, change_counts, page_counts, HasMade, listed_bound, most_of}
+use Rattle.rss_model.specs.Spares.{ChangeCounts, change_counts, page_counts, HasMade, listed_bound}
 use Rattle.rss_stored.specs.Store.{Stored, SpellsTables, held_in, listed_at, meter_of, pages_of_space, IsStore}
 use Rattle.rss_model.proofs.Counts.{one_if}
-use Rattle.rss_stored.proofs.ImageRooms.{bound_rises, listed_same}
+use Rattle.rss_stored.proofs.ImageRooms.{most_of, bound_rises, listed_same}
 use Rattle.rss_model.proofs.LogLists.{by_test}
 use Rattle.rss_model.proofs.Sparing.{number_leaves_room, spare_in_restart}
 use Rattle.rss_stored.proofs.StorePages.{map_allowed, owners_split, saved_few}

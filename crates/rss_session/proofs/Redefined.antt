@@ -18,11 +18,11 @@ use Rattle.rss_model.specs.EngineLogs.{EngineLog, all_logged, saved_log, TiesSta
 use Rattle.rss_model.specs.Fits.{Fits}
 use Rattle.rss_model.specs.Machine.{StoreSize, State, IsAtRest, with_changes, now}
 use Rattle.rss_model.specs.Meter.{Stamp, heap_pages, changes_of, changers, checkpoint_size, least_position, free_between}
-use Rattle.rss_model.specs.Spares.{change_counts, live_of, most_of}
+use Rattle.rss_model.specs.Spares.{change_counts, live_of}
 use Rattle.rss_model.specs.Steps.{stamp_by, redefined}
 use Rattle.rss_stored.specs.Store.{SpellsTables, size_of}
 use Rattle.rss_model.specs.Tables.{Tables, tuple_count}
-use Rattle.rss_stored.proofs.ImageRooms.{bound_rises, listed_same, images_few}
+use Rattle.rss_stored.proofs.ImageRooms.{most_of, bound_rises, listed_same, images_few}
 use Rattle.rss_stored.proofs.Listed.{heap_is, fields_listed}
 use Rattle.rss_stored.proofs.LogOpening.{restart_ties}
 use Rattle.rss_trans.specs.Transactions.{Transaction, marks_of, Checkpoints}

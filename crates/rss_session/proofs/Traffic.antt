@@ -14,10 +14,10 @@ use Rattle.rss_model.specs.Machine.{State}
 use Rattle.rss_model.specs.Meanings.{SameDefinitions}
 use Rattle.rss_model.specs.Meter.{Traffic, Meter, entries_most, with_traffic, counts_for, changes_of}
 use Rattle.rss_model.specs.Rules.{with_change, saved_now}
-use Rattle.rss_model.specs.Spares.{change_counts, live_of, listed_bound, most_of}
+use Rattle.rss_model.specs.Spares.{change_counts, live_of, listed_bound}
 use Rattle.rss_stored.specs.Store.{SpellsTables}
 use Rattle.rss_model.specs.Tables.{Tables, tuple_count}
-use Rattle.rss_stored.proofs.ImageRooms.{listed_same}
+use Rattle.rss_stored.proofs.ImageRooms.{most_of, listed_same}
 use Rattle.rss_stored.proofs.Relisted.{number_of}
 use Rattle.rss_access.proofs.Numbered.{entry_at}
 use Rattle.rss_trans.specs.Told.{IsNumbered}

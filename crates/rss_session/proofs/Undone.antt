@@ -5,6 +5,7 @@ use Rattle.std.proofs.lemmas.Bool.{eq-eqb, eqb-true}
 use Rattle.std.proofs.lemmas.Bool.Decides.{nat_tests}
 use Rattle.std.proofs.lemmas.List.{length-take}
 use Rattle.std.proofs.lemmas.List.Sums.{sum_by-cons, sum_by-append}
+use Rattle.std.proofs.lemmas.Option.{none-some}
 use Rattle.rss_base.specs.declared.change.Change as told
 use Rattle.rss_base.specs.declared.change.Change.TheVariants.{Insert, Delete, Update, Connect, Disconnect}
 use Rattle.rss_base.specs.declared.item.Item.{Item}
@@ -98,7 +99,7 @@ module _ (view : SessionView) (state : State) (t n position : ℕ) (ready : IsRe
   its_number : IsNumbered view.store.catalog.listing its.change.item (relation_told its.told_change)
   its_number = numbered_too shown.definitions its.change.item (relation_told its.told_change) (numbered_told shown.stored.listing its.change.by its.change its.told_change its.told.tells its.told.means)
 
-  module _ (number : ℕ) (is_one : IsNumbered view.store.catalog.listing its.change.item (Some number)) (m : ℕ) (relation : RelationEntry) (at : relation_at view.store.catalog.listing m ≡ Some relation) where
+  module _ (m : ℕ) (relation : RelationEntry) (at : relation_at view.store.catalog.listing m ≡ Some relation) where
     -- the tuples that are there, with the changes that may still be undone
     all_there : tuple_count (after state.base.contents (kept_to maker t (n + 1) state.changes)) relation.name + changes_of (kept_to maker t (n + 1) state.changes) relation.name ≤ most_in view m
     all_there = omega (
@@ -107,26 +108,37 @@ module _ (view : SessionView) (state : State) (t n position : ℕ) (ready : IsRe
       most_counted back.counted few_slots m relation at,
     )
 
-    one_more : (b : Bool) → (m == number) ≡ b → (if b then relation.live + 1 else relation.live) ≤ most_in view m
-    one_more true is =
+    one_more : (number : ℕ) → IsNumbered view.store.catalog.listing its.change.item (Some number) → (b : Bool) → (m == number) ≡ b → (if b then relation.live + 1 else relation.live) ≤ most_in view m
+    one_more number is_one true is =
         let named = number_of view.store.catalog.listing m relation at in
         let of = in_relation view.store.catalog.listing shown.spells.listed.relations_once relation.name m named its.change.item (Some number) is_one in
         let same : (number == m) ≡ true = eq-eqb number m (sym (eqb-true m number is)) in
         omega (arith, all_there, shown.spells.counts m relation at, one_there state t n its.change relation.name its.last (sym of ∙ same))
-    one_more false is = omega (arith, all_there, shown.spells.counts m relation at)
+    one_more number is_one false is = omega (arith, all_there, shown.spells.counts m relation at)
+
+    -- no relation has the number 0
+    none_more : (b : Bool) → (m == 0) ≡ b → (if b then relation.live + 1 else relation.live) ≤ most_in view m
+    none_more true is = absurd (none-some relation (ap (relation_at view.store.catalog.listing) (sym (eqb-true m 0 is)) ∙ at))
+    none_more false is = omega (arith, all_there, shown.spells.counts m relation at)
+
+  room_within_most : (number : ℕ) → ((m : ℕ) (relation : RelationEntry) → relation_at view.store.catalog.listing m ≡ Some relation → (if m == number then relation.live + 1 else relation.live) ≤ most_in view m) → HasRoom (access view.store) number
+  room_within_most number more =
+      let spare = spare_for_all (sessions.counts view) (sums_in view.opened).p (page_counts view.store.pages) ready.room ready.pages ready.saved in
+      let within = room_within view.store.catalog.listing number (most_in view) more in
+      omega (arith, spare, within, listed_some view.opened t opened, some)
 
   room_of : (number : ℕ) → IsNumbered view.store.catalog.listing its.change.item (Some number) → HasRoom (access view.store) number
-  room_of number is_one =
-      let spare = spare_for_all (sessions.counts view) (sums_in view.opened).p (page_counts view.store.pages) ready.room ready.pages ready.saved in
-      let within = room_within view.store.catalog.listing number (most_in view) (λ m relation at. one_more number is_one m relation at (m == number) refl) in
-      omega (arith, spare, within, listed_some view.opened t opened, some)
+  room_of number is_one = room_within_most number (λ m relation at. one_more m relation at number is_one (m == number) refl)
+
+  room_of_chain : HasRoom (access view.store) 0
+  room_of_chain = room_within_most 0 (λ m relation at. none_more m relation at (m == 0) refl)
 
   room_for : (told_change : told.Change) → IsNumbered view.store.catalog.listing its.change.item (relation_told told_change) → HasRoomFor (access view.store) told_change
   room_for (Insert relation tid values) is_one = room_of relation is_one
   room_for (Delete relation tid values) is_one = room_of relation is_one
   room_for (Update relation tid was next) is_one = room_of relation is_one
-  room_for (Connect link parent child left) is_one = tt
-  room_for (Disconnect link parent child left) is_one = tt
+  room_for (Connect link parent child left) is_one = room_of_chain
+  room_for (Disconnect link parent child left) is_one = room_of_chain
 
   pub room_back : HasRoomFor (access view.store) its.told_change
   room_back = room_for its.told_change its_number

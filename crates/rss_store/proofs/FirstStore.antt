@@ -30,9 +30,9 @@ use Rattle.rss_tuple.specs.Directory.{homes, overflows, body_by, bodies_of}
 use Rattle.rss_tuple.specs.Heaps.{AreLinked}
 use Rattle.rss_model.specs.Items.{item_cmp}
 use Rattle.rss_model.specs.Tables.{content, no_tables}
-use Rattle.rss_stored.specs.Store.{SpellsTables, first_stored as stored, OpensTo}
+use Rattle.rss_stored.specs.Store.{SpellsTables, OpensTo}
 use Rattle.rss_catalog.proofs.Plain.{plain_paths, zeros_past}
-use Rattle.rss_stored.proofs.FirstLog.{first_log}
+use Rattle.rss_stored.proofs.FirstLog.{first_stored as stored, first_log}
 use Rattle.rss_model.proofs.Fitting.{no_tables_fit}
 use Rattle.rss_stored.proofs.PlainStores.{plain_images, plain_nodes}
 use Rattle.rss_stored.proofs.Listed.{at_place}

@@ -10,10 +10,10 @@ use Rattle.rss_base.specs.declared.name.Name.{Name}
 use Rattle.rss_base.specs.declared.relation.RelationEntry.{RelationEntry}
 use Rattle.rss_catalog.specs.Catalogs.{HasSystemPages}
 use Rattle.rss_model.specs.Meter.{Meter, entries_most}
-use Rattle.rss_model.specs.Spares.{change_counts, listed_bound, live_of, most_of}
+use Rattle.rss_model.specs.Spares.{change_counts, listed_bound, live_of}
 use Rattle.rss_stored.specs.Store.{SpellsTables}
 use Rattle.rss_model.specs.Tables.{Tables, tuple_count}
-use Rattle.rss_stored.proofs.ImageRooms.{bound_rises, listed_same, images_few}
+use Rattle.rss_stored.proofs.ImageRooms.{most_of, bound_rises, listed_same, images_few}
 use Rattle.rss_stored.proofs.StorePages.{pages_split}
 use Rattle.rss_access.specs.Written.{heap_now}
 use Rattle.rss_store.specs.Opening.{HasRoomAtRest}

@@ -6,7 +6,7 @@ use Rattle.std.specs.FinMap.{same_map}
 use Rattle.std.proofs.lemmas.Bool.{eq-eqb, ne_eqb}
 use Rattle.std.proofs.lemmas.Option.{none-some, same_Some}
 use Rattle.rss_base.specs.Paged.{Held}
-use Rattle.rss_base.specs.TupleTypes.{kinds, misfit, tuple_bytes, IsStorable}
+use Rattle.rss_base.specs.TupleTypes.{misfit, tuple_bytes, IsStorable}
 use Rattle.rss_base.specs.Listings.{Listing, ListingFits, IsSpelled, relation_at, link_at}
 use Rattle.rss_base.specs.Prefixes.{Neighbours, Part, Member, Child, Parent, first_of, lower_part, neighbours_in, early_part, prefix_size, ends_of}
 use Rattle.rss_base.specs.declared.name.Name.{Name}
@@ -19,7 +19,7 @@ use Rattle.rss_base.specs.declared.relation.RelationEntry.{RelationEntry}
 use Rattle.rss_base.specs.declared.link.LinkEntry.{LinkEntry}
 use Rattle.rss_tuple.specs.Directory.{Bodies}
 use Rattle.rss_model.specs.Items.{Content, Values, parent_of}
-use Rattle.rss_model.specs.Tables.{RelationDef, LinkDef, Definitions, Contents, Tables, content, fields_of}
+use Rattle.rss_model.specs.Tables.{LinkDef, Contents, Tables, content}
 use Rattle.rss_model.specs.Chains.{chain_content, chain, chain_with, stands_in, is_there, HasParent}
 use Rattle.rss_model.specs.Fits.{Fits}
 use Rattle.rss_stored.specs.Store.{Defines, IsListedLink, IsTupleItem, IsChainItem, SpellsContents, SpellsTables, body_of, block_of, link_definition, place_below, place_of, prefix_of, relation_name, fields_at}

@@ -18,10 +18,26 @@ use Rattle.rss_model.specs.Fits.{Fits}
 use Rattle.rss_model.specs.Records.{LogEntry, Checkpoint}
 use Rattle.rss_model.specs.Recovers.{Recovers}
 use Rattle.rss_model.specs.Meanings.{Logged, as_bytes, as_entries, Says, says_change, says_restore, says_end, says_abort, says_checkpoint, MeansIt, IsLogged, is_listed}
-use Rattle.rss_stored.specs.Store.{HasFirstLog, first_record, first_stored, HasLog}
+use Rattle.rss_stored.specs.Store.{Stored, stored, HasLog}
 use Rattle.rss_stored.proofs.LogPlaced.{told_at}
 
 -- ---- a root with the first log
+
+-- the log of a root as it is made: it has one record, of a checkpoint at which no transaction is open
+pub record HasFirstLog (root : Root) : Type 0 where
+  pub head : root.head ≡ 0
+  pub checkpoint : root.checkpoint ≡ 0
+  pub end : root.end ≡ 2
+  pub tail : root.tail ≡ 9 ∷ 0 ∷ []
+
+-- the record of the first log
+abbrev pub first_record : Logged
+first_record = record { at = 0; told = records.Checkpoint []; is = Checkpoint [] }
+
+-- a store with the first log, by which the tables of its checkpoint are recovered
+abbrev pub first_stored : ℕ → Root → List (Option PageKey) → Listing → Tables → Stored
+first_stored number root owners listing tables =
+    stored number root owners listing tables [] (first_record ∷ []) tables
 
 pub first_parses : (pages : Pages) (root : Root) → HasFirstLog root → Parses (log_bytes pages root) root.head (as_bytes (first_record ∷ [])) root.end
 first_parses pages root first = record {

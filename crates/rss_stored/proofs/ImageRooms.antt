@@ -16,8 +16,8 @@ use Rattle.rss_base.specs.declared.relation.RelationEntry.{RelationEntry}
 use Rattle.rss_base.specs.declared.refusal.Kind.TheVariants.{Image as ImageKind}
 use Rattle.rss_model.specs.Tables.{ImageDef, Definitions, Tables, tuple_count}
 use Rattle.rss_model.specs.Images.{image_list}
-use Rattle.rss_model.specs.Meter.{Meter, bound_of, entries_most, pages_of_image}
-use Rattle.rss_model.specs.Spares.{change_counts, bound_by, bound_at, listed_bound, live_of, most_of}
+use Rattle.rss_model.specs.Meter.{Traffic, Meter, bound_of, entries_most, pages_of_image}
+use Rattle.rss_model.specs.Spares.{change_counts, bound_by, bound_at, listed_bound, live_of}
 use Rattle.rss_stored.specs.Store.{Defines, HasNumber, IsListedImage, SpellsImage, SpellsImages, IsReached, SpellsTables, AreCounts, image_definition}
 use Rattle.rss_model.proofs.ImageCounts.{entries_few}
 use Rattle.rss_stored.proofs.ImageFields.{width_is}
@@ -28,6 +28,11 @@ use Rattle.rss_model.proofs.Mixing.{In}
 use Rattle.rss_stored.proofs.Relisted.{number_within_list}
 use Rattle.rss_model.proofs.Saving.{more_bound}
 use Rattle.rss_stored.proofs.Spelled.{named_image}
+
+-- how many entries the meter allows the images of the relation of a number
+abbrev pub most_of : Listing → (Name → Traffic) → ℕ → ℕ
+most_of listing traffic number =
+    unwrap_or (option_map (λ relation. entries_most (traffic relation.name)) (relation_at listing number)) 0
 
 -- ---- more entries may need more pages
 

@@ -30,8 +30,9 @@ use Rattle.rss_model.specs.Meanings.{Logged, as_entries, is_change}
 use Rattle.rss_model.specs.Meter.{Meter, heap_pages, changes_of, entries_most, pages_of_image, room_number, owed, log_room, free_between}
 use Rattle.rss_model.specs.Spares.{change_counts}
 use Rattle.rss_model.specs.Recovers.{lists_at}
-use Rattle.rss_stored.specs.Store.{Stored, first_record, meter_of, overflow_pages, pages_of_space, IsStore, StoresHaveRoom, OpeningsHaveRoom, OpeningsAreMetered}
+use Rattle.rss_stored.specs.Store.{Stored, meter_of, overflow_pages, pages_of_space, IsStore, StoresHaveRoom, OpeningsHaveRoom, OpeningsAreMetered}
 use Rattle.rss_model.proofs.Heap.{no_entries}
+use Rattle.rss_stored.proofs.FirstLog.{first_record}
 use Rattle.rss_stored.proofs.Listed.{heap_is}
 use Rattle.rss_stored.proofs.ImageRooms.{images_allowed}
 use Rattle.rss_stored.proofs.Restarted.{recovered_pages, recovered_count}

@@ -38,8 +38,7 @@ use Rattle.rss_model.specs.Chains.{tuples_in, chain, chain_with}
 use Rattle.rss_model.specs.Images.{Entry, image_list}
 use Rattle.rss_model.specs.Fits.{Fits}
 use Rattle.rss_model.specs.Meter.{Meter, owed, log_room, room_number}
-use Rattle.rss_base.specs.declared.log_record.LogRecord.TheVariants as records
-use Rattle.rss_model.specs.Records.{Checkpoint, Listed}
+use Rattle.rss_model.specs.Records.{Listed}
 use Rattle.rss_model.specs.Restart.{restarted}
 use Rattle.rss_model.specs.Recovers.{lists_at, Recovers, WayFits}
 use Rattle.rss_model.specs.Meanings.{Logged, as_bytes, as_entries, IsLogged, is_change, traffic_of}
@@ -266,13 +265,6 @@ pub record SpellsTables (held : Held) (listing : Listing) (tables : Tables) : Ty
 
 -- ---- a store
 
--- the log of a root as it is made: it has one record, of a checkpoint at which no transaction is open
-pub record HasFirstLog (root : Root) : Type 0 where
-  pub head : root.head ≡ 0
-  pub checkpoint : root.checkpoint ≡ 0
-  pub end : root.end ≡ 2
-  pub tail : root.tail ≡ 9 ∷ 0 ∷ []
-
 -- number, root: the selected root and its number.
 -- owners: the map that it names.
 -- listing: which number each definition has.
@@ -300,15 +292,6 @@ stored number root owners listing saved older newer tables = record {
   newer = newer;
   tables = tables;
 }
-
--- the record of the first log
-abbrev pub first_record : Logged
-first_record = record { at = 0; told = records.Checkpoint []; is = Checkpoint [] }
-
--- a store with the first log, by which the tables of its checkpoint are recovered
-abbrev pub first_stored : ℕ → Root → List (Option PageKey) → Listing → Tables → Stored
-first_stored number root owners listing tables =
-    stored number root owners listing tables [] (first_record ∷ []) tables
 
 -- the pages of the map
 abbrev pub held_in : Pages → Stored → Held

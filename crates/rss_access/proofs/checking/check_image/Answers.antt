@@ -37,19 +37,19 @@ has_entries-requires-clause-there g c = λ disk.
 
 pub returns-in_default-clause-none : goal.returns-in_default-clause-none
 returns-in_default-clause-none g c = λ place is told tables image relation shows listed sound.
-    let found = found_here (both (g.P.Pages.view c.args.tuples.now.pages) c.args.catalog.now) (subst (λ (n : ℕ). n < 4294967296) c.slots-slots.ensures c.slots-slots.type_inv) (g.met.P.Pages.holds c.args.tuples.now.pages told) (g.met.P.Pages.allowed c.args.tuples.now.pages)
+    let found = found_here (both (g.P.Pages.view c.args.tuples.now.pages) c.args.catalog.now) (g.met.P.Pages.few_slots c.args.tuples.now.pages) (g.met.P.Pages.holds c.args.tuples.now.pages told) (g.met.P.Pages.allowed c.args.tuples.now.pages)
     c.args.number c.image.result.now c.relation-relation.result.now c.image.ensures.is c.image.ensures.safe c.relation-relation.ensures.is c.relation-relation.ensures.safe c.image_width.ensures.places c.image_width.ensures.is c.as_slice.ensures c.from.ensures tables image relation shows listed sound in
     c.in_ok-census.ensures.none c.in_default.is told found.tree
 
 pub returns-then-census-from-clause-none : goal.returns-then-census-from-clause-none
 returns-then-census-from-clause-none g c = λ place is told tables image relation shows listed sound.
-    let found = found_here (both (g.P.Pages.view c.args.tuples.now.pages) c.args.catalog.now) (subst (λ (n : ℕ). n < 4294967296) c.slots-slots.ensures c.slots-slots.type_inv) (g.met.P.Pages.holds c.args.tuples.now.pages told) (g.met.P.Pages.allowed c.args.tuples.now.pages)
+    let found = found_here (both (g.P.Pages.view c.args.tuples.now.pages) c.args.catalog.now) (g.met.P.Pages.few_slots c.args.tuples.now.pages) (g.met.P.Pages.holds c.args.tuples.now.pages told) (g.met.P.Pages.allowed c.args.tuples.now.pages)
     c.args.number c.image.result.now c.relation-relation.result.now c.image.ensures.is c.image.ensures.safe c.relation-relation.ensures.is c.relation-relation.ensures.safe c.image_width.ensures.places c.image_width.ensures.is c.as_slice.ensures c.from.ensures tables image relation shows listed sound in
     c.if-census-from.true (found.counts c.in-Some.census ((rw c.in-Some.is at c.in_ok-census.ensures.sound) told) ∙ sym c.from-2.ensures)
 
 pub returns-then-is_doubled-clause-none : goal.returns-then-is_doubled-clause-none
 returns-then-is_doubled-clause-none g c = λ place is told tables image relation shows listed sound.
-    let found = found_here (both (g.P.Pages.view c.args.tuples.now.pages) c.args.catalog.now) (subst (λ (n : ℕ). n < 4294967296) c.slots-slots.ensures c.slots-slots.type_inv) (g.met.P.Pages.holds c.args.tuples.now.pages told) (g.met.P.Pages.allowed c.args.tuples.now.pages)
+    let found = found_here (both (g.P.Pages.view c.args.tuples.now.pages) c.args.catalog.now) (g.met.P.Pages.few_slots c.args.tuples.now.pages) (g.met.P.Pages.holds c.args.tuples.now.pages told) (g.met.P.Pages.allowed c.args.tuples.now.pages)
     c.args.number c.image.result.now c.relation-relation.result.now c.image.ensures.is c.image.ensures.safe c.relation-relation.ensures.is c.relation-relation.ensures.safe c.image_width.ensures.places c.image_width.ensures.is c.as_slice.ensures c.from.ensures tables image relation shows listed sound in
     let twice = c.is_doubled.ensures.yes c.if-is_doubled.true in
     twice.1 (found.once c.in-Some.census ((rw c.in-Some.is at c.in_ok-census.ensures.sound) told) twice.0)
@@ -59,7 +59,7 @@ returns-in_err-has_entries-clause-did g c = looks {most = c.in_ok-census.ensures
 
 pub returns-then-not-branch-clause-none : goal.returns-then-not-branch-clause-none
 returns-then-not-branch-clause-none g c = λ place is told tables image relation shows listed sound.
-    let found = found_here (both (g.P.Pages.view c.args.tuples.now.pages) c.args.catalog.now) (subst (λ (n : ℕ). n < 4294967296) c.slots-slots.ensures c.slots-slots.type_inv) (g.met.P.Pages.holds c.args.tuples.now.pages told) (g.met.P.Pages.allowed c.args.tuples.now.pages)
+    let found = found_here (both (g.P.Pages.view c.args.tuples.now.pages) c.args.catalog.now) (g.met.P.Pages.few_slots c.args.tuples.now.pages) (g.met.P.Pages.holds c.args.tuples.now.pages told) (g.met.P.Pages.allowed c.args.tuples.now.pages)
     c.args.number c.image.result.now c.relation-relation.result.now c.image.ensures.is c.image.ensures.safe c.relation-relation.ensures.is c.relation-relation.ensures.safe c.image_width.ensures.places c.image_width.ensures.is c.as_slice.ensures c.from.ensures tables image relation shows listed sound in
     let step = c.in_ok-census.ensures.did.1.step in
     c.in_ok-has_entries.ensures.none c.if-not-branch.true (step.passes.leaves.told.0 told) (λ tid. tuple_then step told _ _ _ tid _ (found.entries tid))
@@ -75,7 +75,7 @@ returns-then-not-branch-clause-did g c = record {
 pub returns-clause-shows : goal.returns-clause-shows
 returns-clause-shows g c = λ told.
     let step = c.in_ok-census.ensures.did.1.step in
-    shows_here (both (g.P.Pages.view c.args.tuples.now.pages) c.args.catalog.now) (subst (λ (n : ℕ). n < 4294967296) c.slots-slots.ensures c.slots-slots.type_inv) (g.met.P.Pages.holds c.args.tuples.now.pages told) (g.met.P.Pages.allowed c.args.tuples.now.pages)
+    shows_here (both (g.P.Pages.view c.args.tuples.now.pages) c.args.catalog.now) (g.met.P.Pages.few_slots c.args.tuples.now.pages) (g.met.P.Pages.holds c.args.tuples.now.pages told) (g.met.P.Pages.allowed c.args.tuples.now.pages)
     c.args.number c.image.result.now c.relation-relation.result.now c.image.ensures.is c.image.ensures.safe c.relation-relation.ensures.is c.relation-relation.ensures.safe c.image_width.ensures.places c.image_width.ensures.is c.as_slice.ensures c.from.ensures c.in-Some.census
     ((rw c.in-Some.is at c.in_ok-census.ensures.sound) told) (c.if-census-from.false ∙ c.from-2.ensures) (c.is_doubled.ensures.no c.if-is_doubled.false)
     (λ tid. tuple_back step told _ _ _ tid _ (c.in_ok-has_entries.ensures.all c.if-not-branch.false (step.passes.leaves.told.0 told) tid))

@@ -22,7 +22,7 @@ pub returns-in_err-key-clause-fault : goal.returns-in_err-key-clause-fault
 returns-in_err-key-clause-fault g c = λ relation place is told tables shows its few.
     let before = then c.loop-entries.invariant.0.step c.in_ok-tid.ensures.did.below.step in
     let wrong = c.in_err-key.ensures.fault place (passed_on _ c.from_residual-in_err-key.ensures.1 is) (before.passes.leaves.told.0 told) in
-    none_misspelled (subst (λ (n : ℕ). n < 4294967296) c.slots-slots.ensures c.slots-slots.type_inv) shows c.args.number c.relation-relation.ensures.is c.in-Some.tid (misspelled_back c.args.catalog.now c.args.number c.relation-relation.result.now c.args.which.now before told c.in-Some.tid wrong)
+    none_misspelled (g.met.P.Pages.few_slots c.args.tuples.now.pages) shows c.args.number c.relation-relation.ensures.is c.in-Some.tid (misspelled_back c.args.catalog.now c.args.number c.relation-relation.result.now c.args.which.now before told c.in-Some.tid wrong)
 
 pub returns-in_err-key-clause-did : goal.returns-in_err-key-clause-did
 returns-in_err-key-clause-did g c = search_fails _ c.from_residual-in_err-key.ensures.1 (then_search (then c.loop-entries.invariant.0.step c.in_ok-tid.ensures.did.below.step) c.in_err-key.ensures.did)
@@ -33,7 +33,7 @@ returns-then-len-most-clause-fault g c = λ relation place is told tables shows 
     let on = c.in_ok-tid.ensures.did.below.step in
     let key = (rw c.in-Some-2.is at c.in_ok-key.ensures.finds) ((then so.step on).passes.leaves.told.0 told) in
     let more = gathered_key c.args.catalog.now c.args.number c.relation-relation.result.now c.args.which.now so _ on c.in-Some.tid (rw c.in-Some.is at c.in_ok-tid.ensures.behind) (λ told. (rw c.in-Some.is at c.in_ok-tid.ensures.next) (so.step.passes.leaves.told.0 told)) c.in-Some-2.key told key in
-    let most = few_so_far (subst (λ (n : ℕ). n < 4294967296) c.slots-slots.ensures c.slots-slots.type_inv) shows c.args.number c.relation-relation.ensures.is (apart_more so.apart c.in-Some.tid (rw c.in-Some.is at c.in_ok-tid.ensures.behind) c.in-Some-2.key) more in
+    let most = few_so_far (g.met.P.Pages.few_slots c.args.tuples.now.pages) shows c.args.number c.relation-relation.ensures.is (apart_more so.apart c.in-Some.tid (rw c.in-Some.is at c.in_ok-tid.ensures.behind) c.in-Some-2.key) more in
     omega (arith, most, length-append c.loop-entries.entries.items ((c.in-Some-2.key, c.in-Some.tid) ∷ []), c.len.ensures, c.if-len-most.true)
 
 pub returns-then-len-most-clause-did : goal.returns-then-len-most-clause-did
@@ -67,7 +67,7 @@ returns-clause-are g c = λ relation told.
     let so = c.loop-entries.invariant.0 in
     let all = gathered_end c.args.catalog.now c.args.number c.relation-relation.result.now c.args.which.now so told ((rw c.in_default-2.is at c.in_ok-tid.ensures.next) (so.step.passes.leaves.told.0 told)) in
     entries_for (both (g.P.Pages.view c.args.tuples.now.pages) c.args.catalog.now) c.args.number c.relation-relation.result.now relation c.args.which.now _ c.relation-relation.ensures.is
-    (entries_are {at = both (g.P.Pages.view c.args.tuples.now.pages) c.args.catalog.now} (subst (λ (n : ℕ). n < 4294967296) c.slots-slots.ensures c.slots-slots.type_inv) c.args.number c.relation-relation.result.now c.args.which.now
+    (entries_are {at = both (g.P.Pages.view c.args.tuples.now.pages) c.args.catalog.now} (g.met.P.Pages.few_slots c.args.tuples.now.pages) c.args.number c.relation-relation.result.now c.args.which.now
     (c.requires.numbers c.relation-relation.result.now c.relation-relation.ensures.is) _ _ all
     c.sort_unstable_by.ensures.permutation (c.sort_unstable_by.ensures.sorted is_before ranked (answers_always _ _ _ (λ f a r g called. search rules))))
 

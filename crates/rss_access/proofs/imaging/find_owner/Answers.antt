@@ -24,17 +24,15 @@ find_owner-requires-clause-spelled g c =
 pub find_owner-requires-clause-there : goal.find_owner-requires-clause-there
 find_owner-requires-clause-there g c = λ told.
     let view = g.P.Pages.view c.args.tuples.now.pages in
-    let few : view.slots < 4294967296 = subst (λ (n : ℕ). n < 4294967296) c.slots-slots.ensures c.slots-slots.type_inv in
     let listed = c.image_of-image.ensures.listed in
     ∥∥₁_map (c.requires.may.tables told) (λ has.
     subst (λ (i : Image). HasImage i view.held) (sym (c.image_of-image.ensures.is listed.image listed.relation listed.at))
-    (has_image few (g.met.P.Pages.holds c.args.tuples.now.pages told) (g.met.P.Pages.allowed c.args.tuples.now.pages) listed.at has))
+    (has_image (g.met.P.Pages.few_slots c.args.tuples.now.pages) (g.met.P.Pages.holds c.args.tuples.now.pages told) (g.met.P.Pages.allowed c.args.tuples.now.pages) listed.at has))
 
 pub returns-clause-owner : goal.returns-clause-owner
 returns-clause-owner g c = IfOk-weaker c.find_owner.result _ _ (λ found owner told tables spells fit image relation listed unique values spelled.
     let view = g.P.Pages.view c.args.tuples.now.pages in
-    let few : view.slots < 4294967296 = subst (λ (n : ℕ). n < 4294967296) c.slots-slots.ensures c.slots-slots.type_inv in
-    owner told c.args.catalog.now.listing tables c.args.number image relation (shows_fit view spells listed few fit)
+    owner told c.args.catalog.now.listing tables c.args.number image relation (shows_fit view spells listed (g.met.P.Pages.few_slots c.args.tuples.now.pages) fit)
     (c.image_of-image.ensures.is image relation listed) (c.key_fields-key.ensures.is image relation listed)
     (single view spells listed fit unique) values spelled) c.find_owner.ensures.owner
 

@@ -18,17 +18,15 @@ next_pair-requires-clause-last_long g c = pair_long c.image_of-image.ensures.lis
 pub next_pair-requires-clause-there : goal.next_pair-requires-clause-there
 next_pair-requires-clause-there g c = λ told.
     let view = g.P.Pages.view c.args.tuples.now.pages in
-    let few : view.slots < 4294967296 = subst (λ (n : ℕ). n < 4294967296) c.slots-slots.ensures c.slots-slots.type_inv in
     let listed = c.image_of-image.ensures.listed in
     ∥∥₁_map (c.requires.may.tables told) (λ has.
     subst (λ (i : Image). HasImage i view.held) (sym (c.image_of-image.ensures.is listed.image listed.relation listed.at))
-    (has_image few (g.met.P.Pages.holds c.args.tuples.now.pages told) (g.met.P.Pages.allowed c.args.tuples.now.pages) listed.at has))
+    (has_image (g.met.P.Pages.few_slots c.args.tuples.now.pages) (g.met.P.Pages.holds c.args.tuples.now.pages told) (g.met.P.Pages.allowed c.args.tuples.now.pages) listed.at has))
 
 pub returns-clause-next : goal.returns-clause-next
 returns-clause-next g c = IfOk-weaker c.next_pair.result _ _ (λ found next told tables spells fit image relation listed.
     let view = g.P.Pages.view c.args.tuples.now.pages in
-    let few : view.slots < 4294967296 = subst (λ (n : ℕ). n < 4294967296) c.slots-slots.ensures c.slots-slots.type_inv in
-    next told c.args.catalog.now.listing tables c.args.number image relation (shows_fit view spells listed few fit)
+    next told c.args.catalog.now.listing tables c.args.number image relation (shows_fit view spells listed (g.met.P.Pages.few_slots c.args.tuples.now.pages) fit)
     (c.image_of-image.ensures.is image relation listed)) c.next_pair.ensures.next
 
 pub returns-clause-heaps : goal.returns-clause-heaps

@@ -47,15 +47,15 @@ move_entry-requires-clause-may g c = λ disk values others spelled _.
     ∥∥₁_map (c.requires.may disk) (λ may. may_be_moved listed.at.at listed.at.within
     (record { before = c.was.ensures; after = c.next.ensures })
     (its_passes c.args.change listed.at.at c.requires.of (c.key_fields-key.ensures.is listed.image listed.relation listed.at) (c.image_of-image.ensures.is listed.image listed.relation listed.at))
-    (held_low (g.P.Pages.view c.args.pages.now) c.slots-slots.result (omega arith) (sym c.slots-slots.ensures) holds (g.met.P.Pages.allowed c.args.pages.now))
+    (held_low (g.P.Pages.view c.args.pages.now) (g.met.P.Pages.few_slots c.args.pages.now) holds (g.met.P.Pages.allowed c.args.pages.now))
     may.move may.tables may.shows holds values spelled)
 
 pub returns-clause-moves : goal.returns-clause-moves
 returns-clause-moves g c = λ disk move tables shows.
     let listed = c.image_of-image.ensures.listed in
     let step = c.in_ok-move_entry.ensures.did.step in
-    let low = held_low (g.P.Pages.view c.args.pages.now) c.slots-slots.result (omega arith) (sym c.slots-slots.ensures) (g.met.P.Pages.holds c.args.pages.now disk) (g.met.P.Pages.allowed c.args.pages.now) in
-    let new_low = held_low (g.P.Pages.view c.move_entry.new.pages) c.slots-slots.result (omega arith) (step.passes.slots ∙ sym c.slots-slots.ensures) (g.met.P.Pages.holds c.move_entry.new.pages (step.passes.leaves.told.0 disk)) (g.met.P.Pages.allowed c.move_entry.new.pages) in
+    let low = held_low (g.P.Pages.view c.args.pages.now) (g.met.P.Pages.few_slots c.args.pages.now) (g.met.P.Pages.holds c.args.pages.now disk) (g.met.P.Pages.allowed c.args.pages.now) in
+    let new_low = held_low (g.P.Pages.view c.move_entry.new.pages) (g.met.P.Pages.few_slots c.move_entry.new.pages) (g.met.P.Pages.holds c.move_entry.new.pages (step.passes.leaves.told.0 disk)) (g.met.P.Pages.allowed c.move_entry.new.pages) in
     shows_one_more listed.at.at listed.at.within
     (record { before = c.was.ensures; after = c.next.ensures })
     (its_passes c.args.change listed.at.at c.requires.of (c.key_fields-key.ensures.is listed.image listed.relation listed.at) (c.image_of-image.ensures.is listed.image listed.relation listed.at))
@@ -66,8 +66,8 @@ pub returns-clause-nodes : goal.returns-clause-nodes
 returns-clause-nodes g c = λ disk move tables shows.
     let listed = c.image_of-image.ensures.listed in
     let step = c.in_ok-move_entry.ensures.did.step in
-    let low = held_low (g.P.Pages.view c.args.pages.now) c.slots-slots.result (omega arith) (sym c.slots-slots.ensures) (g.met.P.Pages.holds c.args.pages.now disk) (g.met.P.Pages.allowed c.args.pages.now) in
-    let new_low = held_low (g.P.Pages.view c.move_entry.new.pages) c.slots-slots.result (omega arith) (step.passes.slots ∙ sym c.slots-slots.ensures) (g.met.P.Pages.holds c.move_entry.new.pages (step.passes.leaves.told.0 disk)) (g.met.P.Pages.allowed c.move_entry.new.pages) in
+    let low = held_low (g.P.Pages.view c.args.pages.now) (g.met.P.Pages.few_slots c.args.pages.now) (g.met.P.Pages.holds c.args.pages.now disk) (g.met.P.Pages.allowed c.args.pages.now) in
+    let new_low = held_low (g.P.Pages.view c.move_entry.new.pages) (g.met.P.Pages.few_slots c.move_entry.new.pages) (g.met.P.Pages.holds c.move_entry.new.pages (step.passes.leaves.told.0 disk)) (g.met.P.Pages.allowed c.move_entry.new.pages) in
     nodes_one_more listed.at.at listed.at.within
     (record { before = c.was.ensures; after = c.next.ensures })
     (its_passes c.args.change listed.at.at c.requires.of (c.key_fields-key.ensures.is listed.image listed.relation listed.at) (c.image_of-image.ensures.is listed.image listed.relation listed.at))

@@ -10,11 +10,10 @@ use Rattle.rss_access.proofs.trees.take_image.Goals as goal
 pub destroy-requires-clause-there : goal.destroy-requires-clause-there
 destroy-requires-clause-there g c = λ told.
     let view = g.P.Pages.view c.args.pages.now in
-    let few : view.slots < 4294967296 = subst (λ (n : ℕ). n < 4294967296) c.slots-slots.ensures c.slots-slots.type_inv in
     let listed = c.image_of-image.ensures.listed in
     ∥∥₁_map (c.requires.may.tables told) (λ has.
     subst (λ (i : Image). HasImage i view.held) (sym (c.image_of-image.ensures.is listed.image listed.relation listed.at))
-    (has_image few (g.met.P.Pages.holds c.args.pages.now told) (g.met.P.Pages.allowed c.args.pages.now) listed.at has))
+    (has_image (g.met.P.Pages.few_slots c.args.pages.now) (g.met.P.Pages.holds c.args.pages.now told) (g.met.P.Pages.allowed c.args.pages.now) listed.at has))
 
 pub remove-requires-clause-used : goal.remove-requires-clause-used
 remove-requires-clause-used g c = image_used c.args.catalog.now.listing c.args.number ∙ c.requires.there

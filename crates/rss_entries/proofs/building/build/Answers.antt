@@ -7,8 +7,8 @@ use Rattle.rss_base.proofs.Steps.{then, then_call, within, fails, widens}
 use Rattle.rss_node.specs.declared.pair.Nodes.{Nodes}
 use Rattle.rss_image.specs.Images.{nodes_of, Becomes}
 use Rattle.rss_image.specs.declared.image.Image.{Image}
-use Rattle.rss_entries.specs.Building.{pair_list, BuildsMade, Built}
-use Rattle.rss_entries.proofs.Built.{starts_built, may_put_next, spare_next, built_next, below_next, list_more, list_long}
+use Rattle.rss_entries.specs.Building.{pair_list, BuildsMade}
+use Rattle.rss_entries.proofs.Built.{Built, starts_built, may_put_next, spare_next, built_next, below_next, list_more, list_long}
 use Rattle.rss_entries.proofs.building.build.Goals as goal
 
 -- the pages of an image are those of its segment

@@ -4,7 +4,8 @@ use Rattle.rss_base.specs.DiskRule.{IsTold}
 use Rattle.rss_base.specs.Steps.{PagesStep, pages_in}
 use Rattle.rss_base.specs.declared.key.Space.TheVariants.{Image as ImageSpace}
 use Rattle.rss_image.specs.Images.{nodes_of}
-use Rattle.rss_entries.specs.Building.{pair_list, Built}
+use Rattle.rss_entries.specs.Building.{pair_list}
+use Rattle.rss_entries.proofs.Built.{Built}
 use Rattle.rss_entries.proofs.building.build.Given as goal
 
 abbrev pub invariant-loop-key : goal.invariant-loop-key

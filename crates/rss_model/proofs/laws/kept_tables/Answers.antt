@@ -1,4 +1,4 @@
-use Rattle.rss_model.proofs.StepKeeping.{kept_fit, each_fits, mixtures_fit, first_finds_base, last_leaves_now, owners_are_alone}
+use Rattle.rss_model.proofs.StepKeeping.{kept_fit, each_fits, first_finds_base, last_leaves_now, owners_are_alone}
 use Rattle.rss_model.proofs.laws.kept_tables.Goals as goal
 
 pub returns-clause-fit : goal.returns-clause-fit
@@ -6,9 +6,6 @@ returns-clause-fit g = kept_fit
 
 pub returns-clause-each : goal.returns-clause-each
 returns-clause-each g = each_fits
-
-pub returns-clause-mixtures : goal.returns-clause-mixtures
-returns-clause-mixtures g = mixtures_fit
 
 pub returns-clause-first : goal.returns-clause-first
 returns-clause-first g = first_finds_base

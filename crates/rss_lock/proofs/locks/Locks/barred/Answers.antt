@@ -7,8 +7,8 @@ use Rattle.std.proofs.lemmas.List.Filters.{dedup_is}
 use Rattle.rss_base.specs.declared.tid.Tid.{Tid}
 use Rattle.rss_base.proofs.Equal.{same_tid}
 use Rattle.rss_lock.specs.Locks.{is_barred, tid_cmp}
-use Rattle.rss_lock.specs.Table.{IsBarred, Table, table, mode_of, locks_of}
-use Rattle.rss_lock.proofs.Listing.{Entry, Gathers, gathers_skip, gathers_one, barred_iff, sorted_iff, sorted_strictly}
+use Rattle.rss_lock.specs.Table.{Table, table, mode_of, locks_of}
+use Rattle.rss_lock.proofs.Listing.{Entry, IsBarred, Gathers, gathers_skip, gathers_one, barred_iff, sorted_iff, sorted_strictly}
 use Rattle.rss_lock.proofs.Machine.{tells}
 use Rattle.rss_lock.proofs.Firsts.{barred_iff_told}
 use Rattle.rss_lock.proofs.locks.Locks.barred.Goals as goal

@@ -1,8 +1,8 @@
 use Rattle.std.proofs.Common.{◌≡◌, ℕ, suc, List, [], ◌∷◌, length, sym, ◌∙◌, ap, subst, arith}
 use Rattle.rss_base.specs.declared.need.Need.{Need}
-use Rattle.rss_lock.specs.Table.{Modes, AllAgree, HoldersAreFew, IsFree, given_all, Table, mode_of, locks_of}
-use Rattle.rss_lock.proofs.Granting.{first_free, rest_free, given_few}
-use Rattle.rss_lock.proofs.Machine.{tells, few_of, granted_locks, apart_of}
+use Rattle.rss_lock.specs.Table.{Modes, AllAgree, HoldersAreFew, Table, mode_of, locks_of}
+use Rattle.rss_lock.proofs.Granting.{IsFree, first_free, rest_free, given_few}
+use Rattle.rss_lock.proofs.Machine.{given_all, tells, few_of, granted_locks, apart_of}
 use Rattle.rss_lock.proofs.Firsts.{all_free}
 use Rattle.rss_lock.proofs.locks.Locks.take.Goals as goal
 

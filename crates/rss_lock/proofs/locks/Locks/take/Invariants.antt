@@ -1,5 +1,7 @@
 use Rattle.std.proofs.Common.{◌≡◌, ◌+◌, ◌≤◌, length, vec_len}
-use Rattle.rss_lock.specs.Table.{AllAgree, HoldersAreFew, IsFree, given_all, mode_of, told}
+use Rattle.rss_lock.specs.Table.{AllAgree, HoldersAreFew, mode_of, told}
+use Rattle.rss_lock.proofs.Granting.{IsFree}
+use Rattle.rss_lock.proofs.Machine.{given_all}
 use Rattle.rss_lock.proofs.locks.Locks.take.Given as goal
 
 abbrev pub invariant-loop-need : goal.invariant-loop-need
