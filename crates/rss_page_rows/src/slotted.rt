@@ -62,7 +62,7 @@ impl Slotted {
     pub(crate) fn fits(&self, slot: u8, length: u16) -> bool
         requires { slot < page_entries }
     {
-        self.survey().has_room(&self.page, slot, length)
+        Survey::of(&self.page).has_room(&self.page, slot, length)
     }
 
     /// Puts a body, where it fits, by a survey at each other slot.
