@@ -179,14 +179,14 @@ module _ {touched : Keys} {asks outs : ℕ} {old new : PagesView} (heap : (key :
   shadow_same : page_count new.backing.shadow ≡ page_count old.backing.shadow
   shadow_same = ap (λ (b : Backing). page_count b.shadow) step.passes.backing
 
-  -- where no fewer are spare, no more are mapped
-  pub takes_none : old.spare ≤ new.spare → Takes 2 old new
-  takes_none spare = record {
+  -- where two fewer are spare at most, two more are mapped at most
+  pub takes_two : old.spare ≤ new.spare + 2 → Takes 2 old new
+  takes_two spare = record {
     heap = omega (arith, spare, before, after, split_pages old.slots old.mapped, split_pages new.slots new.mapped, images_mapped, system_mapped, shadow_same, step.passes.slots);
     places = omega (arith, spare, images_mapped);
   }
 
-  -- and so it is where none was taken
+  -- where none was taken, no fewer are spare
   pub spare_kept : TakesOnly no_page old new → old.spare ≤ new.spare
   spare_kept takes =
       let home = fewer_of old.mapped new.mapped Home new.slots (λ key is. none_taken takes key) in
@@ -271,13 +271,13 @@ no_room_fails {T = T} {change = change} {at = at} fault result is full chain non
     there : {place : Place} → fault ≡ Damaged (LinkPlace (number_told change)) → ◌≡◌ {A = Result T PageFault} (Err fault) (Err (Damaged place)) → LinkPlace (number_told change) ≡ place
     there full is = cc (full, is)
 
--- what was done, once it is seen whether pages were taken
+-- what was done, once it is seen how many pages were taken
 module _ {T : Type 0} {change : told.Change} {first put : PagesView} {before between after : CatalogView} {spare : ℕ} (place : Place) (result : Result T PageFault)
     (step : PagesStep (pages_told before.listing change) (relink_cost first.slots) (relink_cost first.slots) first put) (alters : Alters change (both first before) (both put between)) (still : CanAlter (both put between)) (relists : Relists change before between) where
-  pub chain_ends : (spare ≤ put.spare → Takes 2 first put) → (IsTold first.disk → spare ≤ put.spare) → OnOk result (spare ≤ put.spare) → OnOk result (after ≡ between) → IfErr result (λ fault. (fault ≡ Damaged place) × (put.spare < spare)) → OnErr result (Rerooted before after) → Makes {T = T} change (both first before) (both put after) result
+  pub chain_ends : (spare ≤ put.spare + 2 → Takes 2 first put) → (IsTold first.disk → spare ≤ put.spare + 2) → OnOk result (spare ≤ put.spare + 2) → OnOk result (after ≡ between) → IfErr result (λ fault. (fault ≡ Damaged place) × (put.spare + 2 < spare)) → OnErr result (Rerooted before after) → Makes {T = T} change (both first before) (both put after) result
   chain_ends takes kept room same taken back = by result room same taken back
     where
-      by : (r : Result T PageFault) → OnOk r (spare ≤ put.spare) → OnOk r (after ≡ between) → IfErr r (λ fault. (fault ≡ Damaged place) × (put.spare < spare)) → OnErr r (Rerooted before after) → Makes {T = T} change (both first before) (both put after) r
+      by : (r : Result T PageFault) → OnOk r (spare ≤ put.spare + 2) → OnOk r (after ≡ between) → IfErr r (λ fault. (fault ≡ Damaged place) × (put.spare + 2 < spare)) → OnErr r (Rerooted before after) → Makes {T = T} change (both first before) (both put after) r
       by (Ok value) room same taken back = subst (λ (c : CatalogView). Makes {T = T} change (both first before) (both put c) (Ok value)) (sym same) (record {
         alters = alters;
         still = still;

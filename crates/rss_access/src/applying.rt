@@ -40,7 +40,7 @@ use rss_tuple::{Store, Tuples};
 /// it or no such relation is defined; where the tuple can't come into the chain, or doesn't stand in
 /// it where the change tells, at the tuple or the link; and at the link, where there is no room for a
 /// change of a chain. Nothing is changed then. It takes two pages at most, and what its images need; a
-/// change of a chain takes none.
+/// change of a chain takes none over a device that tells its contents.
 pub fn apply<P: Pages>(
     tuples: &mut Store<P>,
     catalog: &mut Catalog,

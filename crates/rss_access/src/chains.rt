@@ -1,5 +1,5 @@
 // Changes of chains.
-ghost use Rattle.std.specs.Prelude.{◌≡◌, ◌<◌, ◌≤◌, ⊥, true, is_some, Some, IfSome, IfErr, OnOk, OnErr};
+ghost use Rattle.std.specs.Prelude.{◌≡◌, ◌+◌, ◌<◌, ◌≤◌, true, is_some, Some, IfSome, IfErr, OnOk, OnErr};
 ghost use Rattle.rss_base.specs.DiskRule.{IsTold};
 ghost use Rattle.rss_base.specs.Listings.{IsSpelled, link_at, with_link};
 ghost use Rattle.rss_base.specs.declared.change.Change.TheVariants.{Connect as ConnectTold};
@@ -11,14 +11,15 @@ ghost use Rattle.rss_base.specs.declared.refusal.Kind.TheVariants.{Link as LinkK
 ghost use Rattle.rss_catalog.specs.Catalogs.{Lists, page_of, with_ends};
 ghost use Rattle.rss_access.specs.Changes.{both, CanAlter, HasTables, HasRoom, Makes};
 
-use crate::rooms::has_room;
+use crate::rooms::{PAGES_TAKEN, has_room};
 use rss_base::{Kind, PageFault, Pages, Place, Tid};
 use rss_catalog::Catalog;
 use rss_members::{Membership, connect, disconnect};
 use rss_tuple::Store;
 
 /// Puts a tuple into a chain: right behind `left`, or first. Where it can't come there, or where there
-/// is no room, the fault is `Damaged`, and nothing is changed. No page is taken.
+/// is no room, the fault is `Damaged`, and nothing is changed. No page is taken over a device that
+/// tells its contents.
 pub(crate) fn put_in<P: Pages>(
     tuples: &mut Store<P>,
     catalog: &mut Catalog,
@@ -38,7 +39,7 @@ pub(crate) fn put_in<P: Pages>(
 
 /// Takes a tuple out of the chain where it stands, right behind `left` or first. Where it doesn't
 /// stand there, or where there is no room, the fault is `Damaged`, and nothing is changed. No page is
-/// taken.
+/// taken over a device that tells its contents.
 pub(crate) fn take_out<P: Pages>(
     tuples: &mut Store<P>,
     catalog: &mut Catalog,
@@ -104,22 +105,22 @@ impl Before {
         }
     }
 
-    /// A device that tells nothing may have had pages taken for tuples that stay as long as they
-    /// were. Then the catalog lists the ends that the link had, and the fault is `Damaged`.
+    /// A device that tells nothing may have had more pages taken than there is room for. Then the
+    /// catalog lists the ends that the link had, and the fault is `Damaged`.
     fn settle<P: Pages>(self, pages: &P, catalog: &mut Catalog, link: u8) -> Result<(), PageFault>
         requires listed { is_some (link_at catalog.old.listing link) ≡ true }
         requires first { IfSome self.first IsSpelled }
         requires last { IfSome self.last IsSpelled }
-        ensures room { OnOk result (self.spare ≤ (P.view pages.now).spare) }
+        ensures room { OnOk result (self.spare ≤ (P.view pages.now).spare + 2) }
         ensures same { OnOk result (catalog.new ≡ catalog.old) }
         ensures taken { IfErr result (λ fault. (fault ≡ PageDamaged (LinkPlace link))
-            × ((P.view pages.now).spare < self.spare)) }
+            × ((P.view pages.now).spare + 2 < self.spare)) }
         ensures back { OnErr result ((entry : ALink)
             → link_at catalog.old.listing link ≡ Some entry
             → Lists (with_link catalog.old.listing link (Some (with_ends self.first self.last entry)))
             (page_of LinkKind link) catalog.old catalog.new) }
     {
-        if pages.spare() >= self.spare {
+        if self.spare.saturating_sub(pages.spare()) <= PAGES_TAKEN {
             return Ok(());
         }
         catalog.set_ends(link, self.first, self.last);

@@ -15,7 +15,7 @@ use rss_levels::capacity;
 use rss_value::key_width;
 
 /// How many home and overflow pages a change may take.
-const PAGES_TAKEN: u32 = 2;
+pub(crate) const PAGES_TAKEN: u32 = 2;
 
 /// Whether there is room for two pages more, and for a pair more in each image of the relation of
 /// this number.

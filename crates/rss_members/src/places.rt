@@ -2,7 +2,6 @@
 ghost use Rattle.std.specs.Prelude.{◌≡◌, ◌+◌, ◌*◌, ◌≤◌, ◌++◌, true, is_some, take, length, Some};
 ghost use Rattle.rss_base.specs.Listings.{link_at};
 ghost use Rattle.rss_base.specs.Prefixes.{early_part, prefix_size};
-ghost use Rattle.rss_base.specs.Sizes.{links_most};
 ghost use Rattle.rss_base.specs.declared.link.LinkEntry.{LinkEntry as ALink};
 ghost use Rattle.rss_tuple.specs.Heaps.{body_most};
 ghost use Rattle.rss_link.specs.Blocks.{kept_ends};

@@ -2,7 +2,7 @@
 use Rattle.std.proofs.Common.{arith}
 use Rattle.rss_base.specs.declared.place.Place.TheVariants.{Link as LinkPlace}
 use Rattle.rss_access.specs.Changes.{both}
-use Rattle.rss_access.proofs.ChainMade.{may_relink, no_room_fails, link_there, ends_back, relists_on, takes_none, spare_kept, heap_touched, listed_link_of, alters_chain, chain_fails, chain_ends, still_on, connect_misfits_at}
+use Rattle.rss_access.proofs.ChainMade.{may_relink, no_room_fails, link_there, ends_back, relists_on, takes_two, spare_kept, heap_touched, listed_link_of, alters_chain, chain_fails, chain_ends, still_on, connect_misfits_at}
 use Rattle.rss_access.proofs.chains.put_in.Goals as goal
 
 pub returns-in_err-try_room : goal.returns-in_err-try_room
@@ -35,6 +35,6 @@ returns g c =
     let after = g.met.P.Pages.are_counted c.connect.new.tuples.pages in
     let heap = heap_touched c.args.catalog.now.listing m.link in
     chain_ends (LinkPlace m.link) c.settle.result step alters (still_on m step c.requires alters) (relists_on listed.1 ends m.parent m.left m.child)
-    (λ room. takes_none heap step before after (omega (arith, room, c.of-before.ensures.spare)))
+    (λ room. takes_two heap step before after (omega (arith, room, c.of-before.ensures.spare)))
     (λ told. omega (arith, spare_kept heap step before after (relinks.takes told), c.of-before.ensures.spare))
     c.settle.ensures.room c.settle.ensures.same c.settle.ensures.taken (ends_back c.args.catalog.now c.connect.new.catalog c.settle.new.catalog c.settle.result listed.1 ends (c.of-before.ensures.ends listed.0 listed.1) c.settle.ensures.back)

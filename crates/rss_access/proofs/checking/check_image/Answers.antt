@@ -1,5 +1,5 @@
 -- What a check finds of the image is what it has where it shows tables, and the other way round.
-use Rattle.std.proofs.Common.{◌+◌, ◌<◌, ℕ, take, sym, ◌∙◌, subst, arith}
+use Rattle.std.proofs.Common.{◌+◌, ℕ, take, sym, ◌∙◌, subst, arith}
 use Rattle.rss_base.specs.TupleTypes.{kinds, chosen, key_width}
 use Rattle.rss_base.proofs.Steps.{then, then_call, done, fails}
 use Rattle.rss_node.specs.Nodes.{AreNodes}

@@ -3,7 +3,7 @@ use Rattle.std.proofs.Common.{rules, ◌≡◌, ◌+◌, ◌<◌, ℕ, List, [],
 use Rattle.std.proofs.lemmas.List.Sorted.{answers_always}
 use Rattle.rss_base.specs.declared.tid.Tid.{Tid}
 use Rattle.rss_base.proofs.Looking.{passed_on}
-use Rattle.rss_base.proofs.Steps.{then, then_call, fails}
+use Rattle.rss_base.proofs.Steps.{rests, then, then_call, fails}
 use Rattle.rss_tuple.proofs.Seen.{heaps_after}
 use Rattle.rss_access.specs.Changes.{both}
 use Rattle.rss_access.specs.Filling.{keys_by}
@@ -11,6 +11,9 @@ use Rattle.rss_access.proofs.GatheredAll.{entries_are, entries_for, few_so_far, 
 use Rattle.rss_access.proofs.Gathering.{Gathered, apart_more, gathered_end, gathered_key, misspelled_back, walked_key, walked_past}
 use Rattle.rss_access.proofs.Searching.{searches, searched, then_search, search_fails}
 use Rattle.rss_access.proofs.filling.entries_of.Goals as goal
+
+pub returns-in_default-clause-did : goal.returns-in_default-clause-did
+returns-in_default-clause-did g c = searched {most = 0} _ (λ is. absurd (cc)) (rests (g.P.Pages.view c.args.tuples.now.pages))
 
 pub next_live-requires-clause-heaps : goal.next_live-requires-clause-heaps
 next_live-requires-clause-heaps g c = heaps_after c.loop-entries.invariant.0.step c.requires.heaps

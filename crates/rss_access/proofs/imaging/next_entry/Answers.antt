@@ -1,5 +1,5 @@
 -- The image is that of the catalog's entry, which shows the tables that the pages spell.
-use Rattle.std.proofs.Common.{◌<◌, ◌+◌, ℕ, sym, subst}
+use Rattle.std.proofs.Common.{◌+◌, ℕ, sym, subst}
 use Rattle.std.proofs.Math.Logic.{∥∥₁_map}
 use Rattle.std.proofs.lemmas.Result.{IfOk-weaker}
 use Rattle.rss_base.specs.Steps.{PagesCall, no_page}

@@ -1,5 +1,5 @@
 -- The image is that of the catalog's entry, whose pages are given.
-use Rattle.std.proofs.Common.{◌<◌, ℕ, sym, ◌∙◌, subst}
+use Rattle.std.proofs.Common.{sym, ◌∙◌, subst}
 use Rattle.std.proofs.Math.Logic.{∥∥₁_map}
 use Rattle.rss_image.specs.Images.{HasImage, DestroysImage}
 use Rattle.rss_image.specs.declared.image.Image.{Image}
