@@ -14,11 +14,15 @@ use Rattle.rss_model.specs.Machine.{StoreSize, State, IsAtRest}
 use Rattle.rss_model.specs.ReplyText.{not_a_store_line, damaged_line}
 use Rattle.rss_stored.specs.Store.{Stored, IsStore, OpensTo, OpensIn, IsBrokenAt, IsOverfull, IsNoStore, overflow_pages, size_of}
 use Rattle.rss_model.specs.Plays.{plain}
+use Rattle.rss_model.specs.Runs.{Turn, Run}
+use Rattle.rss_model.specs.Serial.{serial, RunsSerially}
+use Rattle.rss_model.proofs.Serially.{is_serial}
+use Rattle.rss_stored.proofs.LogPlaced.{stores_fit}
 use Rattle.rss_store.specs.Opening.{HasTables, IsSpent, MayLeave as StoreLeaves, PassesOpening, IsEarlyRefusal, IsHandedBack}
 use Rattle.rss_rsi.specs.Opening.{BeginsIn, IsOpened}
 use Rattle.rss_stored.proofs.Stores.{store_unbroken}
 use Rattle.rss_base.specs.Streams.{Stream}
-use Rattle.rss_top.specs.Run.{World, Window, IsTaken, Ended, IsFailedOpening, MayLeave, BeginsAt, ImagesAt, IsRun}
+use Rattle.rss_top.specs.Run.{World, Window, IsTaken, Ended, EndedSerially, IsFailedOpening, MayLeave, BeginsAt, ImagesAt, IsRun}
 use Rattle.rss_top.specs.Run.IsRun.{unopened, refused, opened}
 use Rattle.rss_stored.specs.Calls.{EngineView}
 use Rattle.rss_top.specs.Lines.{View, IsScriptEnd, RunsScript, beginning, on, world, seen}
@@ -30,6 +34,7 @@ use Rattle.rss_top.specs.declared.status.Status.{Status}
 use Rattle.rss_top.specs.declared.status.Status.TheVariants.{Ok, Words, ReadFault, WriteFault, DeviceFault, NotAStore, Damaged, NoMemory, TooLong, WrongSize}
 use Rattle.rss_base.proofs.Moments.{rises_since, widened}
 use Rattle.rss_top.proofs.Endings.{IsCut, stop_is_cut, damaged_is_cut, layout_is_cut, taken_cut, not_too_long}
+use Rattle.rss_top.proofs.Plays.{played_is_play, play_is_run}
 use Rattle.rss_top.proofs.Refusals.{said_is_cut, says_some, tells_no_damage, tells_damage}
 
 -- ---- the state in which a run begins
@@ -78,6 +83,19 @@ module _ {device below : DeviceView} {engine : EngineView} {sink : Stream} {ende
     end_at : Ended status (beginning (plain found.state) (on below sink) source_old) ended.world source_new.bytes
     end_at = ran.ended (still_told (record { pages = pages; is = told })) found.state found.shows
 
+    serially : (made : List Turn) (last : State) → Run found.state made last → RunsSerially found.state (serial made) last.base
+    serially made last run =
+        let stands : OpensTo pages (size_of stored.root) stored.tables = record { stored = stored; store = store; same_size = refl; holds = refl } in
+        is_serial (size_of stored.root) stored.tables found.state last made found.rest.idle (stores_fit pages (size_of stored.root) stored.tables stands) run
+
+    ended_serially : EndedSerially status (beginning (plain found.state) (on below sink) source_old) ended.world source_new.bytes
+    ended_serially = record {
+      ended = end_at;
+      whole = λ is. serially _ _ (end_at.whole is).run;
+      halted = λ is. serially _ _ (play_is_run (played_is_play (end_at.halted is).story.played));
+      stopped = λ is. serially _ _ (play_is_run (played_is_play (end_at.stopped is).played));
+    }
+
     begins_at : ImagesAt below.disk.moment ended.world.disk (BeginsAt (plain found.state))
     begins_at image left =
         let history = ran.passes.history (still_told (record { pages = pages; is = told })) in
@@ -95,7 +113,7 @@ module _ {device below : DeviceView} {engine : EngineView} {sink : Stream} {ende
         opened below.disk.moment opening.not_spent
         (opening_window (widened (passes.moments pages told stored store) (leaves_at device.disk stored found.state idle.same_size idle.committed)) (ran.passes.history (still_told known)))
         (λ read is other is_store rested. opening_window ((passes.rested read is other is_store rested).moments known) (ran.passes.history (still_told known)))
-        begins_at end_at
+        begins_at ended_serially
 
   -- damage is found in no store
   none_damaged : (place : Place) → status ≡ Damaged place → Told device.disk IsNoStore

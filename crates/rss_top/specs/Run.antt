@@ -5,6 +5,7 @@ use Rattle.rss_base.specs.Streams.{Stream, Gives, IsAllOf, Takes}
 use Rattle.rss_base.specs.declared.place.Place.{Place}
 use Rattle.rss_model.specs.ReplyText.{damaged_line}
 use Rattle.rss_model.specs.Runs.{Run}
+use Rattle.rss_model.specs.Serial.{serial, RunsSerially}
 use Rattle.rss_model.specs.Script.{joined, IsUnbroken, Splits, AreLines}
 use Rattle.rss_model.specs.Plays.{Scene, Made, nothing, both_made, LineStep, Play}
 use Rattle.rss_stored.specs.LogLaws.{IsRested}
@@ -215,6 +216,22 @@ pub record Ended (status : Status) (begin : Beginning) (now : World) (left : Opt
       → Stopped status begin now taken.given (IsAllOf begin.left taken.given)
   pub undamaged : (place : Place) → status ≡ Damaged place → ⊥
 
+-- What was run commits what its transactions commit one after another, in the order of their ends,
+-- with the replies that they got.
+abbrev pub CommitsSerially : Beginning → Made → Scene → Type 0
+CommitsSerially begin made last =
+    RunsSerially begin.point.scene.state (serial made.turns) last.state.base
+
+-- how a run ended, and that it was serial up to there
+pub record EndedSerially (status : Status) (begin : Beginning) (now : World) (left : Option (List ℕ))
+    : Type 0 where
+  pub ended : Ended status begin now left
+  pub whole : (is : status ≡ Ok) → CommitsSerially begin (ended.whole is).made (ended.whole is).last
+  pub halted : (is : IsHalt status)
+      → CommitsSerially begin (ended.halted is).story.made (ended.halted is).scene
+  pub stopped : (is : IsStop status)
+      → CommitsSerially begin (ended.stopped is).made (ended.stopped is).from.scene
+
 -- the opening ended the run
 abbrev pub IsFailedOpening : Status → Type 0
 IsFailedOpening status = (status ≡ DeviceFault) ⊎ (status ≡ NoMemory)
@@ -245,7 +262,7 @@ pub data IsRun (status : Status) (first : Scene) (old new : World)
       → Told old.disk (λ pages. (stored : Stored) → IsStore pages stored → IsRested stored
       → Window new.disk old.disk.moment at (Leaves old.disk))
       → ImagesAt at new.disk (BeginsAt first)
-      → Ended status
+      → EndedSerially status
       (record {
         point = record { scene = first; moment = at };
         left = left_old;
