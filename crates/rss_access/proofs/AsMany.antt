@@ -1,10 +1,11 @@
 -- Lists with as many members: a list that rises and has all members of another one, which rises too and is as long, is that one; and the same numbers, none of them twice, are as many.
 use Rattle.std.proofs.Common.{◌≡◌, ◌≢◌, inl, inr, ℕ, zero, suc, ◌<◌, ◌≤◌, List, [], ◌∷◌, length, arith}
 use Rattle.std.specs.Prelude.{Contains, slice_index_or}
-use Rattle.rss_levels.specs.Entries.{IsLess, IsIn, Pairwise}
+use Rattle.rss_base.specs.Entries.{IsLess}
+use Rattle.rss_levels.specs.Entries.{IsIn, Pairwise}
 use Rattle.rss_levels.specs.Nested.{AreSameNumbers}
 use Rattle.rss_levels.proofs.Lists.{each_weaker}
-use Rattle.rss_levels.proofs.Order.{less_never, less_trans}
+use Rattle.rss_base.proofs.Entries.{less_never, less_trans}
 use Rattle.rss_model.proofs.Mixing.{In}
 use Rattle.rss_entries.proofs.Orders.{Rise}
 use Rattle.rss_access.proofs.SortedAlike.{few_apart, same_sorted}

@@ -19,7 +19,8 @@ use Rattle.rss_base.specs.declared.image.ImageEntry.{ImageEntry}
 use Rattle.rss_base.specs.declared.relation.RelationEntry.{RelationEntry}
 use Rattle.rss_levels.specs.Entries.{zeros}
 use Rattle.rss_node.specs.Nodes.{AreNodes}
-use Rattle.rss_node.specs.Pairs.{IsSpelledTid, pair_bytes}
+use Rattle.rss_base.specs.Tids.{IsSpelledTid}
+use Rattle.rss_node.specs.Pairs.{pair_bytes}
 use Rattle.rss_node.specs.declared.pair.Nodes.{Nodes}
 use Rattle.rss_levels.proofs.Pages.{stack_held}
 use Rattle.rss_image.specs.Trees.{cells_of, spells}

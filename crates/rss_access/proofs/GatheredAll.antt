@@ -17,8 +17,10 @@ use Rattle.rss_base.specs.declared.tid.Tid.{Tid}
 use Rattle.rss_base.specs.declared.image.ImageEntry.{ImageEntry}
 use Rattle.rss_base.specs.declared.relation.RelationEntry.{RelationEntry}
 use Rattle.rss_value.specs.Numbers.{IsNumberOf}
-use Rattle.rss_levels.specs.Entries.{Each, IsLess, Pairwise}
-use Rattle.rss_node.specs.Pairs.{IsSpelledTid, pair_bytes}
+use Rattle.rss_base.specs.Entries.{IsLess}
+use Rattle.rss_levels.specs.Entries.{Each, Pairwise}
+use Rattle.rss_base.specs.Tids.{IsSpelledTid}
+use Rattle.rss_node.specs.Pairs.{pair_bytes}
 use Rattle.rss_node.proofs.Ordered.{pairs_ordered}
 use Rattle.rss_model.specs.Images.{Entry}
 use Rattle.rss_model.specs.Tables.{Tables}

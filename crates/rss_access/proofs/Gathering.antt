@@ -9,11 +9,10 @@ use Rattle.rss_base.specs.declared.relation.RelationEntry.{RelationEntry}
 use Rattle.rss_base.proofs.Steps.{then}
 use Rattle.rss_levels.specs.Entries.{Each, Pairwise}
 use Rattle.rss_levels.proofs.Lists.{each_append, each_weaker, pairwise_append}
-use Rattle.rss_node.specs.Pairs.{IsSpelledTid}
 use Rattle.rss_catalog.specs.Catalogs.{CatalogView}
 use Rattle.rss_model.proofs.Mixing.{In}
 use Rattle.rss_tuple.specs.Finding.{IsNext}
-use Rattle.rss_base.specs.Tids.{IsBelow, IsAfter}
+use Rattle.rss_base.specs.Tids.{IsBelow, IsAfter, IsSpelledTid}
 use Rattle.rss_tuple.specs.TupleSteps.{IsLeast, NoneIs, tuples_in}
 use Rattle.rss_access.specs.Changes.{both}
 use Rattle.rss_access.specs.Filling.{HasBody, IsKeyAt, IsMisspelled, IsEntryLong, keys_by}

@@ -12,8 +12,9 @@ use Rattle.std.proofs.lemmas.List.Elements.{All-nil, All-cons, All-head, All-tai
 use Rattle.rss_base.specs.Paged.{Held}
 use Rattle.rss_base.specs.Nodes.{NodeEntry, Node, IsNodeEntry}
 use Rattle.rss_base.specs.Trees.{Pair, IsNodeAt, pair_of}
-use Rattle.rss_levels.specs.Entries.{Entry, Each, IsIn, zeros}
-use Rattle.rss_levels.specs.Rows.{Part, Row, HoldsAt, HoldsRow, HasHead, Begins, IsStack, items, names, name, numbers, pages, link, stored, no_page}
+use Rattle.rss_base.specs.Entries.{Entry, no_page}
+use Rattle.rss_levels.specs.Entries.{Each, IsIn, zeros}
+use Rattle.rss_levels.specs.Rows.{Part, Row, HoldsAt, HoldsRow, HasHead, Begins, IsStack, items, names, name, numbers, pages, link, stored}
 use Rattle.rss_levels.specs.Spots.{IsMade, AreMade}
 use Rattle.rss_levels.proofs.Lists.{each_append, each_unmap}
 use Rattle.rss_levels.proofs.Pages.{in_append, in_left, in_right}

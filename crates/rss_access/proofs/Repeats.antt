@@ -14,8 +14,9 @@ use Rattle.rss_base.specs.declared.tid.Tid.{Tid}
 use Rattle.rss_base.specs.declared.value.Value.{Value}
 use Rattle.rss_base.specs.declared.image.ImageEntry.{ImageEntry}
 use Rattle.rss_base.specs.declared.relation.RelationEntry.{RelationEntry}
-use Rattle.rss_levels.specs.Entries.{IsLess, Each, Pairwise}
-use Rattle.rss_levels.proofs.Order.{less_never, less_trans}
+use Rattle.rss_base.specs.Entries.{IsLess}
+use Rattle.rss_levels.specs.Entries.{Each, Pairwise}
+use Rattle.rss_base.proofs.Entries.{less_never, less_trans}
 use Rattle.rss_value.proofs.KeyOrders.{keys_same}
 use Rattle.rss_value.proofs.Orders.{slice_cmp-append}
 use Rattle.rss_node.specs.Pairs.{pair_bytes, key_from, tid_from}

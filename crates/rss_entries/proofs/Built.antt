@@ -6,10 +6,11 @@ use Rattle.std.proofs.lemmas.List.{length-map, length-take-le, map_more}
 use Rattle.std.proofs.lemmas.Cmp.{nat_list_cmp_total}
 use Rattle.rss_base.specs.Steps.{PagesView}
 use Rattle.rss_base.specs.declared.tid.Tid.{Tid}
-use Rattle.rss_levels.specs.Entries.{Each, IsIn, IsLess, Pairwise, zeros}
+use Rattle.rss_base.specs.Entries.{IsLess}
+use Rattle.rss_levels.specs.Entries.{Each, IsIn, Pairwise, zeros}
 use Rattle.rss_levels.specs.Spots.{IsOwn, with_pair}
 use Rattle.rss_levels.proofs.Lists.{each_left, each_right, each_weaker}
-use Rattle.rss_levels.proofs.Order.{less_never}
+use Rattle.rss_base.proofs.Entries.{less_never}
 use Rattle.rss_levels.proofs.Pages.{own_back}
 use Rattle.rss_node.specs.Pairs.{pair_bytes}
 use Rattle.rss_node.specs.declared.pair.Nodes.{Nodes}

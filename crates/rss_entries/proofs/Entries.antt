@@ -11,7 +11,9 @@ use Rattle.rss_base.specs.TupleTypes.{key_width, key_bytes, key_part_width, Spel
 use Rattle.rss_base.specs.declared.tid.Tid.{Tid}
 use Rattle.rss_base.specs.declared.value.Value.{Value}
 use Rattle.rss_base.specs.declared.value.FieldForm.{FieldForm}
-use Rattle.rss_levels.specs.Entries.{Pairwise, IsLess, least}
+use Rattle.rss_base.specs.Entries.{IsLess}
+use Rattle.rss_base.specs.Nodes.{node_least}
+use Rattle.rss_levels.specs.Entries.{Pairwise}
 use Rattle.rss_value.proofs.Fitting.{AllFit, fitting}
 use Rattle.rss_value.proofs.KeyOrders.{form_part, length-key_part}
 use Rattle.rss_node.specs.Pairs.{pair_bytes}
@@ -83,9 +85,9 @@ fewer (Some bytes) tid pairs = less_long (pair_bytes bytes tid) pairs
 bound_upto : (width a b : ℕ) → width ≤ 120 → a ≤ b → page_bound width a ≤ page_bound width b
 bound_upto width a b narrow upto =
     let room = many width narrow in
-    let some : 0 < least width - 1 = omega (arith, room) in
-    let part = div-mul-le_self a (least width - 1) in
-    let upto_b : a / (least width - 1) ≤ b / (least width - 1) = le-div (a / (least width - 1)) b (least width - 1) some (omega (arith, part, upto)) in
+    let some : 0 < node_least width - 1 = omega (arith, room) in
+    let part = div-mul-le_self a (node_least width - 1) in
+    let upto_b : a / (node_least width - 1) ≤ b / (node_least width - 1) = le-div (a / (node_least width - 1)) b (node_least width - 1) some (omega (arith, part, upto)) in
     omega (arith, upto_b)
 
 if_cut : (key : Option (List ℕ)) (tid : Tid) (image : Image) (pages : PagesView) (pairs : List (List ℕ)) → ImageTree image pages.held pairs → HasKey key tid pairs → MayCutKey key tid image pages

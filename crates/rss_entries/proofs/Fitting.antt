@@ -19,7 +19,7 @@ use Rattle.rss_base.specs.declared.value.FieldKind.TheVariants.{Int as IntField,
 use Rattle.rss_base.specs.declared.image.ImageEntry.{ImageEntry}
 use Rattle.rss_base.specs.declared.relation.RelationEntry.{RelationEntry}
 use Rattle.rss_node.specs.Nodes.{AreNodes}
-use Rattle.rss_node.specs.Pairs.{IsSpelledTid}
+use Rattle.rss_base.specs.Tids.{IsSpelledTid}
 use Rattle.rss_image.specs.Images.{nodes_of}
 use Rattle.rss_model.specs.Items.{Values, item_cmp}
 use Rattle.rss_model.specs.Tables.{content, Tables}

@@ -12,7 +12,7 @@ use Rattle.rss_base.specs.declared.item.Item.TheVariants.{Tuple as TupleItem}
 use Rattle.rss_base.specs.declared.image.ImageEntry.{ImageEntry}
 use Rattle.rss_base.specs.declared.relation.RelationEntry.{RelationEntry}
 use Rattle.rss_base.specs.declared.refusal.Kind.TheVariants.{Relation as RelationKind}
-use Rattle.rss_node.specs.Pairs.{IsSpelledTid}
+use Rattle.rss_base.specs.Tids.{IsSpelledTid}
 use Rattle.rss_model.specs.Items.{Content, Values}
 use Rattle.rss_model.specs.Tables.{RelationDef, Tables, content, fields_in, fields_of}
 use Rattle.rss_model.specs.Images.{image_list, key_kinds}

@@ -16,7 +16,7 @@ use Rattle.rss_base.specs.declared.image.ImageEntry.{ImageEntry}
 use Rattle.rss_base.specs.declared.relation.RelationEntry.{RelationEntry}
 use Rattle.rss_page.specs.Slotted.{IsHeapKey}
 use Rattle.rss_levels.specs.Entries.{IsIn}
-use Rattle.rss_node.specs.Pairs.{IsSpelledTid}
+use Rattle.rss_base.specs.Tids.{IsSpelledTid}
 use Rattle.rss_image.specs.Images.{Becomes, pages_of}
 use Rattle.rss_image.specs.declared.image.Image.{Image}
 use Rattle.rss_tuple.proofs.Sets.{none_held}

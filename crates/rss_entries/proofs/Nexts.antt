@@ -20,7 +20,8 @@ use Rattle.rss_levels.specs.Sought.{is_passed, first_from}
 use Rattle.rss_levels.proofs.Order.{zeros_least}
 use Rattle.rss_value.proofs.KeyOrders.{keys_order}
 use Rattle.rss_value.proofs.Orders.{slice_cmp-append}
-use Rattle.rss_node.specs.Pairs.{pair_bytes, IsSpelledTid}
+use Rattle.rss_base.specs.Tids.{IsSpelledTid}
+use Rattle.rss_node.specs.Pairs.{pair_bytes}
 use Rattle.rss_node.proofs.Ordered.{pairs_ordered}
 use Rattle.rss_image.specs.Images.{Finds, found_bytes, least_tid}
 use Rattle.rss_image.specs.declared.image.Image.{Image}

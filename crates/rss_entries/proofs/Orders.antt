@@ -6,11 +6,12 @@ use Rattle.std.specs.Cmp.Lexicographic.{slice_cmp}
 use Rattle.std.specs.FinMap.{slice_cmp-IsAntisymmetric, nat_cmp-IsAntisymmetric}
 use Rattle.std.specs.declared.cmp.Ordering.{Ordering}
 use Rattle.std.specs.declared.cmp.Ordering.TheVariants.{Less, Equal, Greater}
-use Rattle.rss_levels.specs.Entries.{IsLess, Each, Pairwise}
+use Rattle.rss_base.specs.Entries.{IsLess}
+use Rattle.rss_levels.specs.Entries.{Each, Pairwise}
 use Rattle.rss_levels.specs.Spots.{with_pair}
 use Rattle.rss_levels.specs.Removes.{without_pair}
 use Rattle.rss_levels.proofs.Lists.{each_weaker}
-use Rattle.rss_levels.proofs.Order.{less_never, less_trans, greater_less}
+use Rattle.rss_base.proofs.Entries.{less_never, less_trans, greater_less}
 use Rattle.rss_model.proofs.Mixing.{In}
 
 -- ---- members

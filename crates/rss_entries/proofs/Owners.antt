@@ -15,7 +15,8 @@ use Rattle.rss_base.specs.declared.item.Item.TheVariants.{Tuple as TupleItem}
 use Rattle.rss_base.specs.declared.image.ImageEntry.{ImageEntry}
 use Rattle.rss_base.specs.declared.relation.RelationEntry.{RelationEntry}
 use Rattle.rss_value.proofs.KeyOrders.{keys_same}
-use Rattle.rss_node.specs.Pairs.{pair_bytes, IsSpelledTid}
+use Rattle.rss_base.specs.Tids.{IsSpelledTid}
+use Rattle.rss_node.specs.Pairs.{pair_bytes}
 use Rattle.rss_image.specs.Images.{IsPairOf, IsAnother}
 use Rattle.rss_model.specs.Items.{Values}
 use Rattle.rss_model.specs.Tables.{ImageDef, Tables, content}

@@ -23,8 +23,10 @@ use Rattle.rss_base.specs.declared.relation.RelationEntry.{RelationEntry}
 use Rattle.rss_value.proofs.Fitting.{AllFit, fitting}
 use Rattle.rss_value.proofs.KeyOrders.{form_part, length-key_part, keys_order}
 use Rattle.rss_value.proofs.Choosing.{key_made}
-use Rattle.rss_levels.specs.Entries.{IsLess, Pairwise}
-use Rattle.rss_node.specs.Pairs.{pair_bytes, pair_from, IsSpelledTid}
+use Rattle.rss_base.specs.Entries.{IsLess}
+use Rattle.rss_levels.specs.Entries.{Pairwise}
+use Rattle.rss_base.specs.Tids.{IsSpelledTid}
+use Rattle.rss_node.specs.Pairs.{pair_bytes, pair_from}
 use Rattle.rss_node.proofs.Ordered.{pairs_ordered}
 use Rattle.rss_node.proofs.Agreed.{pair_said}
 use Rattle.rss_model.specs.Items.{Values}

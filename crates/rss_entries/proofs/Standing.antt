@@ -18,7 +18,8 @@ use Rattle.rss_levels.specs.Rows.{Row, Cells, HoldsRow, IsStack, items, leaf_ent
 use Rattle.rss_levels.specs.Nested.{AreSameNumbers}
 use Rattle.rss_levels.proofs.Lists.{each_append, each_unmap}
 use Rattle.rss_node.specs.Nodes.{AreNodes}
-use Rattle.rss_node.specs.Pairs.{IsWhole, IsSpelledTid, pair_bytes, pair_from}
+use Rattle.rss_base.specs.Tids.{IsSpelledTid}
+use Rattle.rss_node.specs.Pairs.{IsWhole, pair_bytes, pair_from}
 use Rattle.rss_node.specs.declared.pair.Nodes.{Nodes}
 use Rattle.rss_node.proofs.Agreed.{whole_page, pair_said}
 use Rattle.rss_image.specs.Trees.{cells_of, spells, node_of}

@@ -7,10 +7,11 @@ use Rattle.std.specs.Cmp.Lexicographic.{slice_cmp}
 use Rattle.std.specs.declared.cmp.Ordering.{Ordering}
 use Rattle.std.specs.declared.cmp.Ordering.TheVariants.{Less, Equal, Greater}
 use Rattle.std.proofs.lemmas.Cmp.{nat_list_cmp_total, tied_itself}
-use Rattle.rss_levels.specs.Entries.{Each, Pairwise, IsLess}
+use Rattle.rss_base.specs.Entries.{IsLess}
+use Rattle.rss_levels.specs.Entries.{Each, Pairwise}
 use Rattle.rss_levels.specs.Spots.{with_pair}
 use Rattle.rss_levels.specs.Removes.{without_pair}
-use Rattle.rss_levels.proofs.Order.{less_never, less_asym}
+use Rattle.rss_base.proofs.Entries.{less_never, less_asym}
 
 -- the pair is one of the list
 abbrev pub StandsIn : List (List ℕ) → List ℕ → Type 0

@@ -2,7 +2,8 @@
 use Rattle.std.specs.Prelude.{◌≡◌, ℕ, Bool, true, List, map}
 use Rattle.rss_base.specs.Steps.{PagesView}
 use Rattle.rss_base.specs.declared.tid.Tid.{Tid}
-use Rattle.rss_levels.specs.Entries.{Each, IsLess, Pairwise, zeros}
+use Rattle.rss_base.specs.Entries.{IsLess}
+use Rattle.rss_levels.specs.Entries.{Each, Pairwise, zeros}
 use Rattle.rss_node.specs.Pairs.{pair_bytes}
 use Rattle.rss_image.specs.Images.{AreAllMade}
 use Rattle.rss_image.specs.declared.image.Image.{Image}

@@ -11,7 +11,7 @@ use Rattle.rss_base.specs.declared.value.Value.{Value}
 use Rattle.rss_base.specs.declared.item.Item.TheVariants.{Tuple as TupleItem}
 use Rattle.rss_base.specs.declared.image.ImageEntry.{ImageEntry}
 use Rattle.rss_base.specs.declared.relation.RelationEntry.{RelationEntry}
-use Rattle.rss_node.specs.Pairs.{IsSpelledTid}
+use Rattle.rss_base.specs.Tids.{IsSpelledTid}
 use Rattle.rss_image.specs.declared.image.Image.{Image}
 use Rattle.rss_model.specs.Items.{Content, Values}
 use Rattle.rss_model.specs.Tables.{Tables, content, put}

@@ -5,7 +5,7 @@ ghost use Rattle.rss_base.specs.Steps.{PagesCall, no_page};
 ghost use Rattle.rss_base.specs.TupleTypes.{kinds, chosen, key_width, SpellsSome};
 ghost use Rattle.rss_value.specs.Numbers.{IsNumberOf};
 ghost use Rattle.rss_node.specs.Nodes.{AreNodes};
-ghost use Rattle.rss_node.specs.Pairs.{IsSpelledTid};
+ghost use Rattle.rss_base.specs.Tids.{IsSpelledTid};
 ghost use Rattle.rss_image.specs.Images.{nodes_of, HasImage};
 ghost use Rattle.rss_entries.specs.Keyed.{kinds_of};
 ghost use Rattle.rss_entries.specs.Seeking.{IsOwnerIn, IsNextIn};

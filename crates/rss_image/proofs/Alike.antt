@@ -1,7 +1,8 @@
 -- What stands under nodes of the same names is the same.
 use Rattle.std.proofs.Common.{◌≡◌, ℕ, suc, List, [], ◌∷◌, ◌++◌, length, refl, sym, ◌∙◌, ap, subst}
-use Rattle.rss_levels.specs.Entries.{Entry, zeros}
-use Rattle.rss_levels.specs.Rows.{Part, Row, Cells, HoldsAt, HasHead, Begins, first, name, names, stored, no_page}
+use Rattle.rss_base.specs.Entries.{Entry, no_page}
+use Rattle.rss_levels.specs.Entries.{zeros}
+use Rattle.rss_levels.specs.Rows.{Part, Row, Cells, HoldsAt, HasHead, Begins, first, name, names, stored}
 use Rattle.rss_levels.specs.Nested.{IsUnder, AreUnder, leaf_under, inner_under, none_under, more_under}
 use Rattle.rss_node.specs.Nodes.{NodeView}
 use Rattle.rss_node.specs.declared.pair.Nodes.{Nodes}

@@ -15,7 +15,7 @@ use Rattle.rss_base.specs.Paged.{is_same}
 use Rattle.rss_base.proofs.Keys.{is_same-itself}
 use Rattle.rss_base.proofs.Counts.{one_more}
 use Rattle.rss_base.proofs.Steps.{written_here, held_off-with, mapped_off-with, all_held, all_mapped}
-use Rattle.rss_levels.specs.Entries.{Entry}
+use Rattle.rss_base.specs.Entries.{Entry}
 use Rattle.rss_node.specs.Nodes.{NodeView, IsNodeOf, Spells}
 use Rattle.rss_node.specs.declared.pair.Nodes.{Nodes}
 use Rattle.rss_image.specs.Trees.{cells_of, node_of, HoldsNode, HasNode, KeepsPages, LosesNoPage, Writes}

@@ -2,8 +2,10 @@
 use Rattle.std.proofs.Common.{◌≡◌, inl, ⊎_elim, ◌<◌, ◌≤◌, ◌+◌, ◌-◌, ℕ, suc, List, [], ◌∷◌, length, sym, ap, subst, ◌∙◌, arith}
 use Rattle.rss_base.specs.Paged.{Held}
 use Rattle.rss_base.specs.Steps.{PagesView}
-use Rattle.rss_levels.specs.Entries.{Entry, Each, IsIn, capacity}
-use Rattle.rss_levels.specs.Rows.{Row, Cells, IsTree, link, pages, no_page, stored}
+use Rattle.rss_base.specs.Entries.{Entry, no_page}
+use Rattle.rss_base.specs.Nodes.{node_most}
+use Rattle.rss_levels.specs.Entries.{Each, IsIn}
+use Rattle.rss_levels.specs.Rows.{Row, Cells, IsTree, link, pages, stored}
 use Rattle.rss_levels.specs.Spots.{Keeps, LosesNone, IsOwn, AreMade}
 use Rattle.rss_levels.specs.Removes.{Removes, without_pair}
 use Rattle.rss_levels.proofs.Pages.{keeps_then, loses_between, stack_held}
@@ -40,7 +42,7 @@ may_remove image held pair long may = record {
   branches = λ inner. may.tree.tree.branches (omega (arith, inner, may.tree.tree.high));
 }
 
-module _ (image : Image) (old : PagesView) (pair : List ℕ) (pairs : List (List ℕ)) (tree : ImageTree image old.held pairs) (long : length pair ≡ image.width + 6) (many : 31 ≤ capacity image.width) where
+module _ (image : Image) (old : PagesView) (pair : List ℕ) (pairs : List (List ℕ)) (tree : ImageTree image old.held pairs) (long : length pair ≡ image.width + 6) (many : 31 ≤ node_most image.width) where
   of : Nodes
   of = nodes_of image
 

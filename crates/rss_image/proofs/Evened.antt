@@ -7,7 +7,9 @@ use Rattle.rss_base.specs.Paged.{Held, page_key}
 use Rattle.rss_base.specs.Steps.{PagesView, PagesStep, no_page}
 use Rattle.rss_base.specs.declared.key.PageKey.{PageKey}
 use Rattle.rss_base.specs.declared.key.Space.TheVariants.{Image}
-use Rattle.rss_levels.specs.Entries.{Entry, IsIn, zeros, capacity, least}
+use Rattle.rss_base.specs.Entries.{Entry}
+use Rattle.rss_base.specs.Nodes.{node_most, node_least}
+use Rattle.rss_levels.specs.Entries.{IsIn, zeros}
 use Rattle.rss_levels.specs.Rows.{Part, Row, Cells, HoldsAt, Begins, link, stored}
 use Rattle.rss_levels.specs.Spots.{Keeps, LosesNone}
 use Rattle.rss_levels.proofs.Pages.{keeps_then, loses_between}
@@ -178,7 +180,7 @@ module _ (of : Nodes) (old : Cells) (level number other : ℕ) (pair : List ℕ)
   back : (new : Cells) → Keeps (number ∷ other ∷ []) old new → Keeps (left.number ∷ right.number ∷ []) old new
   back new keeps = record { same = λ n bytes off was. keeps.same n bytes (λ is. off (⊎_elim (λ (same : number ≡ n). inl (are.left_is ∙ same)) (λ (more : IsIn (other ∷ []) n). inr (⊎_elim (λ (same : other ≡ n). inl (are.right_is ∙ same)) (λ (none : ⊥). absurd none) more)) is)) was }
 
-  pub joined_evens : (new : Cells) → length one.entries + length two.entries ≤ capacity of.width → Joined of level number other two.next (one.entries ++ first_named level pair two.entries) old new → EvensTo of old new level left right next []
+  pub joined_evens : (new : Cells) → length one.entries + length two.entries ≤ node_most of.width → Joined of level number other two.next (one.entries ++ first_named level pair two.entries) old new → EvensTo of old new level left right next []
   joined_evens new room joined =
       let both : List Entry = left.items ++ right.items in
       let long : length both ≡ length left.items + length right.items = length-append left.items right.items in
@@ -199,13 +201,13 @@ module _ (of : Nodes) (old : Cells) (level number other : ℕ) (pair : List ℕ)
           extra_number = tt;
           held = (subst (λ (n : ℕ). HoldsAt (spells of) new level n (link level [] next) (stored of.width level both)) (sym are.left_is) there_next, tt);
           few = (omega (arith, long, room, left_long, right_long), tt);
-          full = λ was. (⊎_elim (λ (l : least of.width ≤ length left.items). omega (arith, long, l)) (λ (r : least of.width ≤ length right.items). omega (arith, long, r)) was, tt);
+          full = λ was. (⊎_elim (λ (l : node_least of.width ≤ length left.items). omega (arith, long, l)) (λ (r : node_least of.width ≤ length right.items). omega (arith, long, r)) was, tt);
           keeps = back new joined.keeps;
           loses_none = (λ n is. subst (λ (m : ℕ). LosesNone (m ∷ right.number ∷ []) (m ∷ []) old new) (sym are.left_is) (subst (λ (m : ℕ). LosesNone (number ∷ m ∷ []) (number ∷ []) old new) (sym are.right_is) joined.loses_none) n is);
         };
       }
 
-  pub shared_evens : (new : Cells) (second : List ℕ) → length one.entries ≤ capacity of.width → length two.entries ≤ capacity of.width → capacity of.width < length one.entries + length two.entries
+  pub shared_evens : (new : Cells) (second : List ℕ) → length one.entries ≤ node_most of.width → length two.entries ≤ node_most of.width → node_most of.width < length one.entries + length two.entries
       → Shared of level number other one.next two.next (one.entries ++ first_named level pair two.entries) old new
       → second ≡ (entry_at (drop (length (one.entries ++ first_named level pair two.entries) / 2) (one.entries ++ first_named level pair two.entries)) 0).pair
       → EvensTo of old new level left right next (second_names (Some second) other)

@@ -5,8 +5,10 @@ use Rattle.std.proofs.Math.Nat.{mul-le-mul_left}
 use Rattle.std.proofs.Common.{mul_comm}
 use Rattle.rss_base.specs.Paged.{Held}
 use Rattle.rss_base.specs.Steps.{PagesView}
-use Rattle.rss_levels.specs.Entries.{Entry, Each, Pairwise, IsIn, capacity}
-use Rattle.rss_levels.specs.Rows.{Part, Row, Cells, HoldsAt, first, name, names, numbers, no_page, stored}
+use Rattle.rss_base.specs.Entries.{Entry, no_page}
+use Rattle.rss_base.specs.Nodes.{node_most}
+use Rattle.rss_levels.specs.Entries.{Each, Pairwise, IsIn}
+use Rattle.rss_levels.specs.Rows.{Part, Row, Cells, HoldsAt, first, name, names, numbers, stored}
 use Rattle.rss_levels.specs.Spots.{IsOwn}
 use Rattle.rss_levels.specs.Nested.{IsUnder, AreUnder, AreSameNumbers, leaf_under, inner_under, none_under, more_under}
 use Rattle.rss_levels.proofs.Lists.{each_left, each_right, pairwise_left, pairwise_right}
@@ -24,12 +26,12 @@ use Rattle.rss_image.proofs.Putting.{StillCounted}
 abbrev pub children : List Entry → List ℕ
 children es = map (λ e. e.child) es
 
-pub inner_up : (width level : ℕ) → 0 < level → inner_most width level ≡ 1 + capacity width * inner_most width (level - 1)
+pub inner_up : (width level : ℕ) → 0 < level → inner_most width level ≡ 1 + node_most width * inner_most width (level - 1)
 inner_up width zero some = absurd (omega arith)
-inner_up width (suc level) some = let down : level ≡ suc level - 1 = omega arith in ap (λ (n : ℕ). 1 + capacity width * inner_most width n) down
+inner_up width (suc level) some = let down : level ≡ suc level - 1 = omega arith in ap (λ (n : ℕ). 1 + node_most width * inner_most width n) down
 
-pub times_up : (width count m : ℕ) → count ≤ capacity width → count * m ≤ capacity width * m
-times_up width count m few = subst (λ (n : ℕ). n ≤ capacity width * m) (mul_comm m count) (subst (λ (n : ℕ). m * count ≤ n) (mul_comm m (capacity width)) (mul-le-mul_left m few))
+pub times_up : (width count m : ℕ) → count ≤ node_most width → count * m ≤ node_most width * m
+times_up width count m few = subst (λ (n : ℕ). n ≤ node_most width * m) (mul_comm m count) (subst (λ (n : ℕ). m * count ≤ n) (mul_comm m (node_most width)) (mul-le-mul_left m few))
 
 -- an inner node that was read, with what stands under it
 pub record Opened (of : Nodes) (cells : Cells) (below number : ℕ) (entries : List Entry) (ns : List ℕ) : Type 0 where

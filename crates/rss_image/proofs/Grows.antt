@@ -1,9 +1,11 @@
 -- What was done to a node, as what stands in its place in the row.
 use Rattle.std.proofs.Common.{⊎_elim, ◌≡◌, ◌<◌, ◌≤◌, ℕ, suc, zero, List, [], ◌∷◌, ◌++◌, length, refl, sym, ◌∙◌, ap, subst, arith}
 use Rattle.std.proofs.lemmas.List.{append-nil}
-use Rattle.rss_levels.specs.Entries.{Entry, capacity, zeros}
+use Rattle.rss_base.specs.Entries.{Entry}
+use Rattle.rss_base.specs.Nodes.{node_most}
+use Rattle.rss_levels.specs.Entries.{zeros}
 use Rattle.rss_levels.specs.Rows.{Part, Cells, HoldsAt, link, stored}
-use Rattle.rss_levels.specs.Spots.{Replaces}
+use Rattle.rss_levels.proofs.Replacing.{Replaces}
 use Rattle.rss_levels.proofs.Spotted.{stored_long}
 use Rattle.rss_node.specs.declared.pair.Nodes.{Nodes}
 use Rattle.rss_image.specs.Trees.{spells}
@@ -13,7 +15,7 @@ with_items : Part → List Entry → Part
 with_items p es = record p { items = es }
 
 module _ (of : Nodes) (old new : Cells) (here : Part) (next : ℕ) where
-  pub whole_replaces : (level : ℕ) (entries : List Entry) → 0 < length entries → length here.items ≤ length entries → length entries ≤ capacity of.width → Whole of level here.number (link level [] next) (stored of.width level entries) old new
+  pub whole_replaces : (level : ℕ) (entries : List Entry) → 0 < length entries → length here.items ≤ length entries → length entries ≤ node_most of.width → Whole of level here.number (link level [] next) (stored of.width level entries) old new
       → Replaces (spells of) old new of.width level here next entries (record here { items = entries }) []
   whole_replaces level entries some more few whole = record {
     number_is = refl;

@@ -3,8 +3,10 @@ use Rattle.std.proofs.Common.{◌≡◌, ℕ, suc, zero, ◌+◌, ◌-◌, ◌/�
 use Rattle.std.proofs.lemmas.List.{append-nil, take_all, drop_all, length-drop}
 use Rattle.std.proofs.Math.Nat.{le-div_iff_mul-le}
 use Rattle.std.proofs.Common.{◌*◌}
-use Rattle.rss_levels.specs.Entries.{Entry, zeros, capacity, least}
-use Rattle.rss_levels.specs.Rows.{stored, blanked, no_page, Begins}
+use Rattle.rss_base.specs.Entries.{Entry, no_page}
+use Rattle.rss_base.specs.Nodes.{node_most, node_least}
+use Rattle.rss_levels.specs.Entries.{zeros}
+use Rattle.rss_levels.specs.Rows.{stored, blanked, Begins}
 use Rattle.rss_node.specs.Nodes.{spliced, entry_at}
 use Rattle.rss_image.specs.Grown.{put_at, left_next, right_next}
 
@@ -60,18 +62,18 @@ spliced_blank width (e ∷ es) some = refl
 
 -- ---- the halves, as they are made
 
-module _ (es : List Entry) (at count width : ℕ) (e : Entry) (long : count ≡ length es) (full : length es ≡ capacity width) (low : at ≤ length es) where
-  half_is : suc (count / 2) ≡ least width + 1
+module _ (es : List Entry) (at count width : ℕ) (e : Entry) (long : count ≡ length es) (full : length es ≡ node_most width) (low : at ≤ length es) where
+  half_is : suc (count / 2) ≡ node_least width + 1
   half_is = omega (arith, long, full)
 
-  pub left_low : at ≤ count / 2 → spliced (spliced es (count / 2) (count - count / 2) []) at 0 (e ∷ []) ≡ take (least width + 1) (put_at es at e)
+  pub left_low : at ≤ count / 2 → spliced (spliced es (count / 2) (count - count / 2) []) at 0 (e ∷ []) ≡ take (node_least width + 1) (put_at es at e)
   left_low first =
       ap (λ (l : List Entry). spliced l at 0 (e ∷ [])) (spliced_cut es (count / 2) (count - count / 2) (omega arith))
       ∙ spliced_put (take (count / 2) es) at e
       ∙ sym (take_low es at (count / 2) e first (omega arith))
       ∙ ap (λ (n : ℕ). take n (put_at es at e)) half_is
 
-  pub right_low : (none : List Entry) → none ≡ [] → at ≤ count / 2 → spliced none 0 0 (take (count - count / 2) (drop (count / 2) es)) ≡ drop (least width + 1) (put_at es at e)
+  pub right_low : (none : List Entry) → none ≡ [] → at ≤ count / 2 → spliced none 0 0 (take (count - count / 2) (drop (count / 2) es)) ≡ drop (node_least width + 1) (put_at es at e)
   right_low none empty first =
       ap (λ (l : List Entry). spliced l 0 0 (take (count - count / 2) (drop (count / 2) es))) empty
       ∙ spliced_all (take (count - count / 2) (drop (count / 2) es))
@@ -79,7 +81,7 @@ module _ (es : List Entry) (at count width : ℕ) (e : Entry) (long : count ≡ 
       ∙ sym (drop_low es at (count / 2) e first low)
       ∙ ap (λ (n : ℕ). drop n (put_at es at e)) half_is
 
-  pub left_high : count / 2 < at → spliced es (count / 2 + 1) (count - count / 2 - 1) [] ≡ take (least width + 1) (put_at es at e)
+  pub left_high : count / 2 < at → spliced es (count / 2 + 1) (count - count / 2 - 1) [] ≡ take (node_least width + 1) (put_at es at e)
   left_high last =
       let one : count / 2 + 1 ≡ suc (count / 2) = omega arith in
       spliced_cut es (count / 2 + 1) (count - count / 2 - 1) (omega arith)
@@ -87,7 +89,7 @@ module _ (es : List Entry) (at count width : ℕ) (e : Entry) (long : count ≡ 
       ∙ sym (take_high es at (count / 2) e last low)
       ∙ ap (λ (n : ℕ). take n (put_at es at e)) half_is
 
-  pub right_high : (none : List Entry) → none ≡ [] → count / 2 < at → spliced (spliced none 0 0 (take (count - count / 2 - 1) (drop (count / 2 + 1) es))) (at - count / 2 - 1) 0 (e ∷ []) ≡ drop (least width + 1) (put_at es at e)
+  pub right_high : (none : List Entry) → none ≡ [] → count / 2 < at → spliced (spliced none 0 0 (take (count - count / 2 - 1) (drop (count / 2 + 1) es))) (at - count / 2 - 1) 0 (e ∷ []) ≡ drop (node_least width + 1) (put_at es at e)
   right_high none empty last =
       let one : count / 2 + 1 ≡ suc (count / 2) = omega arith in
       let place : at - count / 2 - 1 ≡ at - suc (count / 2) = omega arith in
@@ -122,5 +124,5 @@ begins_entry low [] some is = absurd (omega arith)
 begins_entry low (e ∷ es) some is = sym is
 
 -- many entries have room in a node
-pub many : (width : ℕ) → width ≤ 120 → 31 ≤ capacity width
+pub many : (width : ℕ) → width ≤ 120 → 31 ≤ node_most width
 many width narrow = let fits : 31 * (width + 10) ≤ 4064 = omega arith in (le-div_iff_mul-le {k = width + 10} {x = 31} {y = 4064} (omega arith)).1 fits

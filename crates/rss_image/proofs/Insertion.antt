@@ -1,9 +1,12 @@
 -- A pair is put under a node, by what the calls say.
 use Rattle.std.proofs.Common.{◌≡◌, ◌≢◌, ◌<◌, ◌≤◌, ◌+◌, ◌-◌, ℕ, suc, zero, List, [], ◌∷◌, ◌++◌, length, take, drop, refl, sym, ◌∙◌, ap, subst, arith, Option, Some, None, true}
 use Rattle.std.proofs.lemmas.List.{take-append-drop}
-use Rattle.rss_levels.specs.Entries.{Entry, Each, IsLess, capacity, zeros}
-use Rattle.rss_levels.specs.Rows.{Part, Row, Cells, HoldsAt, IsStack, first, link, name, names, no_page, stored, leaf_entry}
-use Rattle.rss_levels.specs.Spots.{Spot, Replaces, Inserts, HasRoom, HasFull, rows_at}
+use Rattle.rss_base.specs.Entries.{Entry, IsLess, no_page}
+use Rattle.rss_base.specs.Nodes.{node_most}
+use Rattle.rss_levels.specs.Entries.{Each, zeros}
+use Rattle.rss_levels.specs.Rows.{Part, Row, Cells, HoldsAt, IsStack, first, link, name, names, stored, leaf_entry}
+use Rattle.rss_levels.proofs.Replacing.{Replaces}
+use Rattle.rss_levels.specs.Spots.{Spot, Inserts, HasRoom, HasFull, rows_at}
 use Rattle.rss_levels.proofs.Lists.{each_two}
 use Rattle.rss_levels.proofs.Order.{less_or_same, not_not_less, zeros_least}
 use Rattle.rss_levels.proofs.Inserting.{leaf_inserts, has_full}
@@ -168,7 +171,7 @@ module _ (of : Nodes) (old : Cells) (level number : ℕ) (pair : List ℕ) (pair
   still mid more does absent = here_still (spells of) old of.width level number pair pairs spot at inner some low_here passed_here above_here mid more (put_below mid more does absent)
 
   -- where the child was split and the node has no room, there is room for its split
-  pub inner_room : (mid : Cells) (e : Entry) (spare : ℕ) → Below of (level - 1) pair old (at_place node.entries (at - 1)).child mid (e ∷ []) → Each (λ p. p ≢ pair) pairs → HasRoom of.width spare (rows_at spot) → capacity of.width ≤ length node.entries → suc level ≤ spare
+  pub inner_room : (mid : Cells) (e : Entry) (spare : ℕ) → Below of (level - 1) pair old (at_place node.entries (at - 1)).child mid (e ∷ []) → Each (λ p. p ≢ pair) pairs → HasRoom of.width spare (rows_at spot) → node_most of.width ≤ length node.entries → suc level ≤ spare
   inner_room mid e spare does absent room full =
       let ins = put_below mid (e ∷ []) does absent in
       let split : 1 ≡ length ins.extra = sym (ap (λ (l : List Entry). length l) ins.names_are) ∙ length-map ins.extra name in
@@ -177,7 +180,7 @@ module _ (of : Nodes) (old : Cells) (level number : ℕ) (pair : List ℕ) (pair
 
   pub inner_none : (mid : Cells) → Below of (level - 1) pair old (at_place node.entries (at - 1)).child mid [] → Each (λ p. p ≢ pair) pairs → Inserts spot mid []
   inner_none mid does absent =
-      let few : length spot.here.items ≤ capacity of.width = spot_few (spells of) old of.width level number pair pairs spot in
+      let few : length spot.here.items ≤ node_most of.width = spot_few (spells of) old of.width level number pair pairs spot in
       let mine : List Entry = spot.here.items in
       let ins = put_below mid [] does absent in
       let held = still mid [] does absent in
@@ -200,7 +203,7 @@ module _ (of : Nodes) (old : Cells) (level number : ℕ) (pair : List ℕ) (pair
       (inner_done (spells of) old of.width level number pair pairs spot at inner some low_here passed_here above_here mid new (e ∷ []) ins made.head made.extra (subst (λ (es : List Entry). Replaces (spells of) mid new of.width level spot.here (first spot.after no_page) es made.head made.extra) (put_around mine at e some low_here) made.rep))
 
 -- where a leaf has no room, there is room for its split
-pub leaf_room : (of : Nodes) (old : Cells) (level number : ℕ) (pair : List ℕ) (pairs : List (List ℕ)) (spot : Spot (spells of) old of.width level number pair pairs) (node : NodeView) → HoldsAt (spells of) old level number node.next node.entries → level ≡ 0 → (spare : ℕ) → HasRoom of.width spare (rows_at spot) → capacity of.width ≤ length node.entries → 0 < spare
+pub leaf_room : (of : Nodes) (old : Cells) (level number : ℕ) (pair : List ℕ) (pairs : List (List ℕ)) (spot : Spot (spells of) old of.width level number pair pairs) (node : NodeView) → HoldsAt (spells of) old level number node.next node.entries → level ≡ 0 → (spare : ℕ) → HasRoom of.width spare (rows_at spot) → node_most of.width ≤ length node.entries → 0 < spare
 leaf_room of old level number pair pairs spot node holds is spare room full =
     let long = entries_long of old level number pair pairs spot node holds in
     let here = has_full of.width spot.before spot.here spot.after (omega (arith, full, long)) in

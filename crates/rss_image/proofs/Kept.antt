@@ -9,8 +9,10 @@ use Rattle.rss_base.specs.Paged.{Held}
 use Rattle.rss_base.specs.Trees.{Pair}
 use Rattle.rss_base.specs.declared.tid.Tid.{Tid}
 use Rattle.rss_base.specs.Steps.{PagesView}
-use Rattle.rss_levels.specs.Entries.{Entry, Each, capacity, zeros}
-use Rattle.rss_levels.specs.Rows.{Part, Row, IsTree, no_page}
+use Rattle.rss_base.specs.Entries.{Entry, no_page}
+use Rattle.rss_base.specs.Nodes.{node_most}
+use Rattle.rss_levels.specs.Entries.{Each, zeros}
+use Rattle.rss_levels.specs.Rows.{Part, Row, IsTree}
 use Rattle.rss_levels.specs.Spots.{Inserts, IsMade, AreMade, with_pair}
 use Rattle.rss_levels.specs.Removes.{Removes, without_pair}
 use Rattle.rss_levels.proofs.Cutting.{tree_cut, tree_collapses}
@@ -18,7 +20,8 @@ use Rattle.rss_levels.proofs.Lists.{each_left}
 use Rattle.rss_levels.proofs.Made.{made_names}
 use Rattle.rss_levels.proofs.Spotted.{at_place, stored_child}
 use Rattle.rss_levels.proofs.Trees.{tree_whole, tree_split}
-use Rattle.rss_node.specs.Pairs.{IsSpelledTid, pair_bytes, tid_from}
+use Rattle.rss_base.specs.Tids.{IsSpelledTid}
+use Rattle.rss_node.specs.Pairs.{pair_bytes, tid_from}
 use Rattle.rss_node.specs.declared.pair.Nodes.{Nodes}
 use Rattle.rss_node.proofs.Agreed.{pair_said}
 use Rattle.rss_image.specs.Trees.{cells_of, spells, HoldsNode}
@@ -47,7 +50,7 @@ one_made image held good pairs tree made = each_made image held good pairs tree.
 pub start_made : (image : Image) (view : PagesView) → HoldsNode (nodes_of image) view.held 0 image.root no_page [] → image.levels ≡ 1 → StartsMade image view
 start_made image view holds one good fine = one_made image view.held good [] (empty_tree image view.held holds one) (((fine, tt), tt), tt)
 
-module _ (image : Image) (old : PagesView) (pair : List ℕ) (pairs : List (List ℕ)) (tree : ImageTree image old.held pairs) (long : length pair ≡ image.width + 6) (many : 31 ≤ capacity image.width) (good : List ℕ → Bool) (made : AreMade good ((tree.top ∷ []) ∷ tree.lower)) where
+module _ (image : Image) (old : PagesView) (pair : List ℕ) (pairs : List (List ℕ)) (tree : ImageTree image old.held pairs) (long : length pair ≡ image.width + 6) (many : 31 ≤ node_most image.width) (good : List ℕ → Bool) (made : AreMade good ((tree.top ∷ []) ∷ tree.lower)) where
   zeros_made : good (zeros image.width) ≡ true
   zeros_made = sym (ap good tree.tree.low) ∙ made.0.0.0
 

@@ -8,8 +8,10 @@ use Rattle.std.proofs.lemmas.Grind.{flat_map-append}
 use Rattle.std.proofs.lemmas.List.{append-nil, drop-replicate, length-append, length-map, length-replicate, map-append}
 use Rattle.rss_base.specs.Paged.{Held}
 use Rattle.rss_base.specs.Steps.{PagesView}
-use Rattle.rss_levels.specs.Entries.{Entry, Each, Pairwise, capacity, least, zeros}
-use Rattle.rss_levels.specs.Rows.{Part, Row, Cells, HoldsAt, IsBefore, IsLeaves, HasHead, Begins, first, items, leaf_entry, marks, names, numbers, pages, stored, no_page}
+use Rattle.rss_base.specs.Entries.{Entry, no_page}
+use Rattle.rss_base.specs.Nodes.{node_most, node_least}
+use Rattle.rss_levels.specs.Entries.{Each, Pairwise, zeros}
+use Rattle.rss_levels.specs.Rows.{Part, Row, Cells, HoldsAt, IsBefore, IsLeaves, HasHead, Begins, first, items, leaf_entry, marks, names, numbers, pages, stored}
 use Rattle.rss_levels.specs.Nested.{IsUnder, AreUnder, leaf_under, inner_under, none_under, more_under}
 use Rattle.rss_levels.specs.Spots.{IsMade, AreMade}
 use Rattle.rss_levels.proofs.Lists.{each_append, each_left, each_right, each_weaker}
@@ -70,7 +72,7 @@ module _ (held : Held) (of : Nodes) (fit : AreNodes of) (numbered : AreNumbered 
   plain : (level number next : ℕ) (es : List Entry) → Holds level number next es → HoldsAt (spells of) cells level number next es
   plain level number next es holds = record { bytes = holds.bytes; held = holds.held; spells = holds.spells.spelled }
 
-  few : (level number next : ℕ) (es : List Entry) → Holds level number next (stored of.width level es) → length es ≤ capacity of.width
+  few : (level number next : ℕ) (es : List Entry) → Holds level number next (stored of.width level es) → length es ≤ node_most of.width
   few level number next es holds =
       let page : List ℕ = holds.bytes in
       let is : entries_from of.width (count_of page) (drop 32 page) ≡ stored of.width level es = ap (λ (n : NodeView). n.entries) holds.spells.spelled.says in
@@ -99,7 +101,7 @@ module _ (held : Held) (of : Nodes) (fit : AreNodes of) (numbered : AreNumbered 
     made = λ good pass lows. (((lows.0, each_weaker (IsFineEntry of.width slots 0) (λ e. good e.pair ≡ true) p.items (pass 0) holds.spells.fit.entries_are), tt), tt);
   }
 
-  inner_rows : (level : ℕ) (p : Part) (row : Row) (ns : List ℕ) (leaves : Row) (end : ℕ) → Holds (suc level) p.number no_page (stored of.width (suc level) p.items) → HasHead p → p.items ≡ names row → Each (λ q. least of.width ≤ length q.items) row → UnderRows level row ns leaves end → UnderRows (suc level) (p ∷ []) (p.number ∷ ns) leaves end
+  inner_rows : (level : ℕ) (p : Part) (row : Row) (ns : List ℕ) (leaves : Row) (end : ℕ) → Holds (suc level) p.number no_page (stored of.width (suc level) p.items) → HasHead p → p.items ≡ names row → Each (λ q. node_least of.width ≤ length q.items) row → UnderRows level row ns leaves end → UnderRows (suc level) (p ∷ []) (p.number ∷ ns) leaves end
   inner_rows level p row ns leaves end holds head are full rest = record {
     lower = row ∷ rest.lower;
     tall = ap (λ (n : ℕ). suc n) rest.tall;

@@ -3,7 +3,8 @@ use Rattle.std.proofs.Common.{◌≡◌, ◌+◌, ⊎_elim, inr, ℕ, List, [], 
 use Rattle.rss_base.specs.Paged.{Held}
 use Rattle.rss_base.specs.Steps.{PagesView}
 use Rattle.rss_levels.specs.Entries.{zeros}
-use Rattle.rss_levels.specs.Rows.{Part, no_page}
+use Rattle.rss_base.specs.Entries.{no_page}
+use Rattle.rss_levels.specs.Rows.{Part}
 use Rattle.rss_node.specs.Nodes.{NodeView, blank_node}
 use Rattle.rss_image.specs.Trees.{cells_of, HoldsNode, KeepsPages, LosesNoPage, Writes}
 use Rattle.rss_image.specs.Images.{nodes_of, ImageTree, Becomes}

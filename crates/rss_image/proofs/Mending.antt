@@ -2,8 +2,10 @@
 use Rattle.std.proofs.Common.{◌≡◌, ◌⊎◌, inl, inr, ⊎_elim, ◌<◌, ◌≤◌, ◌+◌, ◌-◌, ℕ, suc, zero, List, [], ◌∷◌, ◌++◌, length, take, drop, refl, sym, ◌∙◌, ap, subst, arith, Some}
 use Rattle.std.specs.Prelude.{Result, Ok, Err, OnOk}
 use Rattle.std.proofs.lemmas.List.{length-append, length-map}
-use Rattle.rss_levels.specs.Entries.{Entry, IsIn, least, zeros}
-use Rattle.rss_levels.specs.Rows.{Row, Cells, HoldsAt, Begins, name, numbers, pages, first, no_page, stored}
+use Rattle.rss_base.specs.Entries.{Entry, no_page}
+use Rattle.rss_base.specs.Nodes.{node_least}
+use Rattle.rss_levels.specs.Entries.{IsIn, zeros}
+use Rattle.rss_levels.specs.Rows.{Row, Cells, HoldsAt, Begins, name, numbers, pages, first, stored}
 use Rattle.rss_levels.specs.Spots.{Keeps, LosesNone}
 use Rattle.rss_levels.specs.Removes.{Neighbours, Evens, Lowered, Filled}
 use Rattle.rss_levels.proofs.Evening.{SplitsTwo}
@@ -41,7 +43,7 @@ begins_kept low [] e ys zs is = is
 begins_kept low (x ∷ xs) e ys zs is = is
 
 module _ (of : Nodes) (old : Cells) (level number place : ℕ) (own : List Entry) (start : Cells) (pairs : List (List ℕ)) (front back : List Entry) (lower : List Row) (entries : List Entry) (lw : Lowered (spells of) start old of.width pairs front back lower entries place)
-    (height : length lower ≡ level) (own_is : own ≡ stored of.width level entries) (at right_at : ℕ) (right_is : right_at ≡ suc at) (near : (place ≡ at) ⊎ (place ≡ suc at)) (low : suc at < length own) (many : 0 < least of.width) where
+    (height : length lower ≡ level) (own_is : own ≡ stored of.width level entries) (at right_at : ℕ) (right_is : right_at ≡ suc at) (near : (place ≡ at) ⊎ (place ≡ suc at)) (low : suc at < length own) (many : 0 < node_least of.width) where
   abbrev pub us : List Entry
   us = take at entries
 

@@ -10,15 +10,17 @@ use Rattle.std.proofs.lemmas.Grind.{flat_map-append}
 use Rattle.std.proofs.lemmas.List.{length-map, length-drop, append-nil, map-append, take_all, take-replicate, drop-replicate}
 use Rattle.std.proofs.lemmas.List.Elements.{All-nil, All-cons}
 use Rattle.rss_base.specs.Paged.{Held}
-use Rattle.rss_base.specs.Nodes.{NodeEntry, IsNodePage}
+use Rattle.rss_base.specs.Nodes.{NodeEntry, IsNodePage, node_least}
 use Rattle.rss_base.specs.Trees.{Pair, IsBelow, AreRising, pair_of, leaf_entry as base_leaf_entry, Leaf, Reached, pairs_of, IsNodeAt, IsAtOrAbove, IsUnder as IsBelowLimit, limit_of, LiesBetween, IsFirstEntry, IsTree as IsBaseTree, is_leaf, is_inner, AreTrees, no_child, one_more, root_least, AreChained}
 use Rattle.rss_base.specs.Listings.{AreDifferent}
-use Rattle.rss_levels.specs.Entries.{Entry, IsLess, Each, Pairwise, zeros, least}
-use Rattle.rss_levels.specs.Rows.{Part, Row, Cells, HoldsAt, HoldsRow, IsStack, IsLeaves, Mark, IsBefore, Begins, fence, item, marks, marks_of, items, name, names, first, link, leaf_entry, stored, no_page}
+use Rattle.rss_base.specs.Entries.{Entry, IsLess, no_page}
+use Rattle.rss_levels.specs.Entries.{Each, Pairwise, zeros}
+use Rattle.rss_levels.specs.Rows.{Part, Row, Cells, HoldsAt, HoldsRow, IsStack, IsLeaves, Mark, IsBefore, Begins, fence, item, marks, marks_of, items, name, names, first, link, leaf_entry, stored}
 use Rattle.rss_levels.specs.Nested.{AreSameNumbers, IsUnder, AreUnder, leaf_under, inner_under, none_under, more_under}
 use Rattle.rss_levels.specs.Spots.{IsMade, AreMade}
 use Rattle.rss_levels.proofs.Lists.{each_append, each_left, each_right, each_two, each_weaker, pairwise_left, pairwise_right, pairwise_cross}
-use Rattle.rss_levels.proofs.Order.{before_trans, before_less, less_never, less_fence, less_fences, less_item}
+use Rattle.rss_base.proofs.Entries.{less_never}
+use Rattle.rss_levels.proofs.Order.{before_trans, before_less, less_fence, less_fences, less_item}
 use Rattle.rss_levels.proofs.Nesting.{StackUnder, stack_under}
 use Rattle.rss_node.specs.Pairs.{IsWhole, pair_from, tid_from, key_from, node_entry, next_from, HasSlot}
 use Rattle.rss_node.specs.declared.pair.Nodes.{Nodes}
@@ -330,16 +332,16 @@ module _ (held : Held) (of : Nodes) where
         let named = first_names level p.low p.items row are head holds.spells.whole in
         inner_tree level n p.number p.low p.items ns leaves end holds head few (trees_under level None (map (node_entry of.width) (stored of.width (suc level) p.items)) row ns leaves end under named full rises)
 
-    trees_under : (level : ℕ) (bound : Option Pair) (es : List NodeEntry) (row : Row) (ns : List ℕ) (leaves : Row) (end : ℕ) → AreUnder (IsSaid of) cells of.width level row ns leaves end → AreNames bound row es → Each (λ q. least of.width ≤ length q.items) row
+    trees_under : (level : ℕ) (bound : Option Pair) (es : List NodeEntry) (row : Row) (ns : List ℕ) (leaves : Row) (end : ℕ) → AreUnder (IsSaid of) cells of.width level row ns leaves end → AreNames bound row es → Each (λ q. node_least of.width ≤ length q.items) row
         → Pairwise IsBefore (marks leaves) → AreTrees held (base_of of) level bound es (reached_of ns leaves end)
     trees_under level bound [] [] _ _ end none_under named full rises = no_child
     trees_under level bound (e ∷ es) [] _ _ end none_under named full rises = absurd named
     trees_under level bound [] (p ∷ row) _ _ end (more_under here rest) named full rises = absurd named
     trees_under level bound (e ∷ es) (p ∷ row) _ _ end (more_under {ns = ns} {ms = ms} {leaves = leaves} {more = more} here rest) named full rises =
         let both : Pairwise IsBefore (marks leaves ++ marks more) = subst (Pairwise IsBefore) (flat_map-append marks_of leaves more) rises in
-        let one = tree_under level (least of.width) p ns leaves (first more end) here (pairwise_left IsBefore (marks leaves) (marks more) both) full.0 in
+        let one = tree_under level (node_least of.width) p ns leaves (first more end) here (pairwise_left IsBefore (marks leaves) (marks more) both) full.0 in
         let between = lies bound p row es leaves more (first more end) named.1 named.2 (started level p ns leaves (first more end) here) (started_row level row ms more end rest) rises in
-        let tree = subst (λ (n : ℕ). IsBaseTree held (base_of of) (least of.width) level n (reached_of ns leaves (first more end))) (sym named.0) one in
+        let tree = subst (λ (n : ℕ). IsBaseTree held (base_of of) (node_least of.width) level n (reached_of ns leaves (first more end))) (sym named.0) one in
         subst (λ (l : List Leaf). AreTrees held (base_of of) level bound (e ∷ es) (record { pages = ns ++ ms; leaves = l })) (sym (leaves_append of.width leaves more end))
         (one_more tree between (trees_under level (limit_of es) es row ms more end rest named.2 full.1 (pairwise_right IsBefore (marks leaves) (marks more) both)))
 

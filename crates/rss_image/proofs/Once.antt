@@ -8,10 +8,12 @@ use Rattle.std.specs.Prelude.{All}
 use Rattle.std.proofs.lemmas.List.Folds.{list_any_none}
 use Rattle.std.proofs.lemmas.Map.Keys.{IsDistinct-from_apart}
 use Rattle.std.proofs.lemmas.Map.Steps.{length-le_from_distinct_below}
-use Rattle.rss_levels.specs.Entries.{Entry, IsLess, Each, Pairwise, least}
-use Rattle.rss_levels.specs.Rows.{Part, Row, Cells, HoldsAt, HoldsRow, IsStack, AreDistinct, items, name, names, numbers, pages, link, stored, no_page}
+use Rattle.rss_base.specs.Entries.{Entry, IsLess, no_page}
+use Rattle.rss_base.specs.Nodes.{node_least}
+use Rattle.rss_levels.specs.Entries.{Each, Pairwise}
+use Rattle.rss_levels.specs.Rows.{Part, Row, Cells, HoldsAt, HoldsRow, IsStack, AreDistinct, items, name, names, numbers, pages, link, stored}
 use Rattle.rss_levels.proofs.Lists.{each_append, each_left, each_map, each_right, each_two, each_weaker, pairwise_append, pairwise_cross, pairwise_right}
-use Rattle.rss_levels.proofs.Order.{less_never}
+use Rattle.rss_base.proofs.Entries.{less_never}
 use Rattle.rss_node.specs.Nodes.{NodeView, Spells}
 use Rattle.rss_node.specs.declared.pair.Nodes.{Nodes}
 use Rattle.rss_node.proofs.Headers.{says_one}
@@ -146,25 +148,25 @@ module _ (of : Nodes) (cells : Cells) where
   children_apart (p ∷ lower) all = (each_map (λ b. p.number ≢ b.child) name lower all.0, children_apart lower all.1)
 
   -- the numbers of a row of nodes with entries
-  row_distinct : (pairs : List (List ℕ)) (row : Row) (lower : List Row) → 0 < least of.width → IsStack (spells of) cells of.width pairs (row ∷ lower) → Each (λ p. 0 < length p.items) row → Pairwise (λ p q. p.number ≢ q.number) row
+  row_distinct : (pairs : List (List ℕ)) (row : Row) (lower : List Row) → 0 < node_least of.width → IsStack (spells of) cells of.width pairs (row ∷ lower) → Each (λ p. 0 < length p.items) row → Pairwise (λ p q. p.number ≢ q.number) row
   row_distinct pairs row [] full stack some = row_apart 0 (λ a b. IsLess a.pair b.pair) row no_page less_apart stack.0.held some (items_rise row stack.1.rises)
   row_distinct pairs row (l ∷ lower) full stack some =
-      let below = row_distinct pairs l lower full stack.2 (each_weaker (λ p. least of.width ≤ length p.items) (λ p. 0 < length p.items) l (λ p is. omega (arith, is, full)) stack.1.full) in
+      let below = row_distinct pairs l lower full stack.2 (each_weaker (λ p. node_least of.width ≤ length p.items) (λ p. 0 < length p.items) l (λ p is. omega (arith, is, full)) stack.1.full) in
       row_apart (suc (length lower)) (λ a b. a.child ≢ b.child) row no_page (child_apart (length lower)) stack.0.held some (subst (Pairwise (λ a b. a.child ≢ b.child)) (sym stack.1.names_are) (children_apart l below))
 
   -- a row without repeats, and those below it
-  rows_distinct : (pairs : List (List ℕ)) (row : Row) (lower : List Row) → 0 < least of.width → IsStack (spells of) cells of.width pairs (row ∷ lower) → Pairwise (λ p q. p.number ≢ q.number) row → AreDistinct (row ∷ lower)
+  rows_distinct : (pairs : List (List ℕ)) (row : Row) (lower : List Row) → 0 < node_least of.width → IsStack (spells of) cells of.width pairs (row ∷ lower) → Pairwise (λ p q. p.number ≢ q.number) row → AreDistinct (row ∷ lower)
   rows_distinct pairs row [] full stack own = pairwise_append (λ a b. a ≢ b) (numbers row) [] (pairwise_map (λ (p : Part). p.number) row own) tt (each_none (numbers row))
     where
       each_none : (ns : List ℕ) → Each (λ n. Each (λ m. n ≢ m) []) ns
       each_none [] = tt
       each_none (n ∷ ns) = (tt, each_none ns)
   rows_distinct pairs row (l ∷ lower) full stack own =
-      let some = each_weaker (λ p. least of.width ≤ length p.items) (λ p. 0 < length p.items) l (λ p is. omega (arith, is, full)) stack.1.full in
+      let some = each_weaker (λ p. node_least of.width ≤ length p.items) (λ p. 0 < length p.items) l (λ p is. omega (arith, is, full)) stack.1.full in
       pairwise_append (λ a b. a ≢ b) (numbers row) (pages (l ∷ lower)) (pairwise_map (λ (p : Part). p.number) row own)
       (rows_distinct pairs l lower full stack.2 (row_distinct pairs l lower full stack.2 some))
       (levels_apart (suc (length lower)) row no_page (pages (l ∷ lower)) stack.0.held (stack_lower (suc (length lower)) pairs l lower (omega arith) stack.2))
 
   -- a tree's pages
-  pub tree_distinct : (pairs : List (List ℕ)) (top : Part) (lower : List Row) → 0 < least of.width → IsStack (spells of) cells of.width pairs ((top ∷ []) ∷ lower) → AreDistinct ((top ∷ []) ∷ lower)
+  pub tree_distinct : (pairs : List (List ℕ)) (top : Part) (lower : List Row) → 0 < node_least of.width → IsStack (spells of) cells of.width pairs ((top ∷ []) ∷ lower) → AreDistinct ((top ∷ []) ∷ lower)
   tree_distinct pairs top lower full stack = rows_distinct pairs (top ∷ []) lower full stack (tt, tt)

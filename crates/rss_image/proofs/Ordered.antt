@@ -1,9 +1,11 @@
 -- A leaf before others: its entries rise from its bound on, and end before the next one's.
 use Rattle.std.proofs.Common.{List, ℕ, [], ◌∷◌, ◌++◌, map}
-use Rattle.rss_levels.specs.Entries.{Entry, IsLess, Each, Pairwise}
+use Rattle.rss_base.specs.Entries.{Entry, IsLess}
+use Rattle.rss_levels.specs.Entries.{Each, Pairwise}
 use Rattle.rss_levels.specs.Rows.{Part, Row, IsBefore, fence, item, marks}
 use Rattle.rss_levels.proofs.Lists.{each_append, each_left, each_right, each_map, each_unmap, each_weaker, pairwise_append, pairwise_left, pairwise_right, pairwise_cross}
-use Rattle.rss_levels.proofs.Order.{before_trans, before_less, fence_from, less_fence, less_fences, less_item, less_never}
+use Rattle.rss_base.proofs.Entries.{less_never}
+use Rattle.rss_levels.proofs.Order.{before_trans, before_less, fence_from, less_fence, less_fences, less_item}
 use Rattle.rss_levels.proofs.Rising.{IsLesser}
 use Rattle.rss_image.specs.Fitting.{IsUnderLimit, AreBetween}
 use Rattle.rss_image.specs.Checking.{first_low}

@@ -11,11 +11,13 @@ use Rattle.std.proofs.lemmas.Cmp.{nat_list_cmp_total, tied_itself}
 use Rattle.rss_base.specs.Paged.{Held}
 use Rattle.rss_base.specs.LogRecords.{tid_bytes}
 use Rattle.rss_base.specs.declared.tid.Tid.{Tid}
-use Rattle.rss_levels.specs.Entries.{Entry, Each, Pairwise, IsLess}
+use Rattle.rss_base.specs.Entries.{Entry, IsLess}
+use Rattle.rss_levels.specs.Entries.{Each, Pairwise}
 use Rattle.rss_levels.specs.Rows.{Row, Cells, Spell, IsStack, leaf_entry}
 use Rattle.rss_levels.specs.Sought.{is_passed, first_from}
 use Rattle.rss_levels.proofs.Lists.{each_weaker, each_unmap}
-use Rattle.rss_levels.proofs.Order.{less_never, less_asym, zeros_least}
+use Rattle.rss_base.proofs.Entries.{less_never, less_asym}
+use Rattle.rss_levels.proofs.Order.{zeros_least}
 use Rattle.rss_value.proofs.Orders.{slice_cmp-append}
 use Rattle.rss_node.specs.Pairs.{pair_bytes}
 use Rattle.rss_image.specs.Trees.{cells_of, spells}

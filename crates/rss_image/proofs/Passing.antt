@@ -2,11 +2,13 @@
 use Rattle.std.proofs.Common.{◌≡◌, ⊎_elim, ◌<◌, ◌≤◌, ◌-◌, ℕ, suc, zero, Bool, true, false, List, [], ◌∷◌, ◌++◌, length, map, refl, ◌∙◌, sym, subst, arith}
 use Rattle.std.proofs.lemmas.Bool.{cases_lt}
 use Rattle.std.proofs.lemmas.Grind.{flat_map-append}
-use Rattle.rss_levels.specs.Entries.{Entry, Each, Pairwise, IsLess}
+use Rattle.rss_base.specs.Entries.{Entry, IsLess}
+use Rattle.rss_levels.specs.Entries.{Each, Pairwise}
 use Rattle.rss_levels.specs.Rows.{Row, Cells, HoldsAt, IsStack, IsBefore, item, marks, marks_of}
 use Rattle.rss_levels.specs.Spots.{Spot}
 use Rattle.rss_levels.proofs.Lists.{pairwise_left, pairwise_right}
-use Rattle.rss_levels.proofs.Order.{less_item, less_trans}
+use Rattle.rss_base.proofs.Entries.{less_trans}
+use Rattle.rss_levels.proofs.Order.{less_item}
 use Rattle.rss_levels.proofs.Rising.{IsLesser}
 use Rattle.rss_levels.proofs.Spotted.{at_place}
 use Rattle.rss_node.specs.Nodes.{NodeView, IsPassed}

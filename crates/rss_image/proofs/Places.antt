@@ -1,8 +1,9 @@
 -- A step down, where a pair is sought.
 use Rattle.std.proofs.Common.{◌<◌, ◌≤◌, ◌-◌, ℕ, List, [], length, sym, subst, true}
 use Rattle.rss_base.specs.Paged.{Held}
-use Rattle.rss_levels.specs.Entries.{least}
-use Rattle.rss_levels.specs.Rows.{Cells, first, link, no_page, stored}
+use Rattle.rss_base.specs.Nodes.{node_least}
+use Rattle.rss_base.specs.Entries.{no_page}
+use Rattle.rss_levels.specs.Rows.{Cells, first, link, stored}
 use Rattle.rss_levels.proofs.Inner.{child_filled}
 use Rattle.rss_levels.proofs.Spotted.{at_place, spot_holds}
 use Rattle.rss_node.specs.Nodes.{NodeView, IsPassed}
@@ -19,7 +20,7 @@ place_node of held level number pair has = record {
 }
 
 pub place_below : (of : Nodes) (held : Held) (level number : ℕ) (pair : List ℕ) (pairs : List (List ℕ)) → MaySeek of held level number pair pairs → (node : NodeView) → HoldsNode of held level number node.next node.entries
-    → (at : ℕ) → 0 < level → 0 < at → at ≤ length node.entries → IsPassed true (at_place node.entries (at - 1)).pair pair → (at < length node.entries → IsPassed true (at_place node.entries at).pair pair → ⊥) → 0 < least of.width
+    → (at : ℕ) → 0 < level → 0 < at → at ≤ length node.entries → IsPassed true (at_place node.entries (at - 1)).pair pair → (at < length node.entries → IsPassed true (at_place node.entries at).pair pair → ⊥) → 0 < node_least of.width
     → MaySeek of held (level - 1) (at_place node.entries (at - 1)).child pair pairs
 place_below of held level number pair pairs may node holds at inner some low passed above few =
     let old : Cells = cells_of of held in

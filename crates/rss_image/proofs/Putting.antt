@@ -3,7 +3,9 @@ use Rattle.std.proofs.Common.{◌≡◌, ◌≢◌, ◌<◌, true, zero, drop, �
 use Rattle.std.proofs.lemmas.List.{append-nil, length-map, drop-drop, length-append}
 use Rattle.rss_base.specs.Paged.{Held}
 use Rattle.rss_base.specs.Steps.{PagesView}
-use Rattle.rss_levels.specs.Entries.{Entry, Each, Pairwise, capacity, zeros}
+use Rattle.rss_base.specs.Entries.{Entry}
+use Rattle.rss_base.specs.Nodes.{node_most}
+use Rattle.rss_levels.specs.Entries.{Each, Pairwise, zeros}
 use Rattle.rss_levels.specs.Rows.{Part, Row, IsTree, AreDistinct, name, names, pages}
 use Rattle.rss_levels.specs.Spots.{IsOwn, LosesNone, Inserts, AreMade, with_pair}
 use Rattle.rss_levels.proofs.Pages.{IsHeld, own_back, keeps_then, loses_both, stack_held}
@@ -35,11 +37,11 @@ abbrev pub spot_of : (image : Image) (held : Held) (pair : List ℕ) (pairs : Li
 spot_of image held pair pairs tree long = root_spot (spells (nodes_of image)) (cells_of (nodes_of image) held) image.width image.root image.levels pair pairs tree.top tree.lower tree.tree long
 
 -- there is room for one more pair
-pub has_room : (image : Image) (view : PagesView) (pairs : List (List ℕ)) (tree : ImageTree image view.held pairs) → 31 ≤ capacity image.width → HasSpare image view → TreeRoom image.width view.spare ((tree.top ∷ []) ∷ tree.lower)
+pub has_room : (image : Image) (view : PagesView) (pairs : List (List ℕ)) (tree : ImageTree image view.held pairs) → 31 ≤ node_most image.width → HasSpare image view → TreeRoom image.width view.spare ((tree.top ∷ []) ∷ tree.lower)
 has_room image view pairs tree many spare =
     tree_room (spells (nodes_of image)) (cells_of (nodes_of image) view.held) image.width image.root image.levels pairs tree.top tree.lower tree.tree (omega arith) view.spare (spare pairs tree)
 
-pub may_insert : (image : Image) (view : PagesView) (pair : List ℕ) → length pair ≡ image.width + 6 → 31 ≤ capacity image.width → MayPut image view.held pair → HasSpare image view → MayInsert (nodes_of image) view.held view.spare (image.levels - 1) image.root pair
+pub may_insert : (image : Image) (view : PagesView) (pair : List ℕ) → length pair ≡ image.width + 6 → 31 ≤ node_most image.width → MayPut image view.held pair → HasSpare image view → MayInsert (nodes_of image) view.held view.spare (image.levels - 1) image.root pair
 may_insert image view pair long many may spare = record {
   pairs = may.pairs;
   spot = spot_of image view.held pair may.pairs may.tree long;
@@ -88,7 +90,7 @@ pub no_extra : (extra : Row) → names extra ≡ [] → extra ≡ []
 no_extra [] is = refl
 no_extra (p ∷ extra) is = absurd (cc)
 
-module _ (image : Image) (old : PagesView) (pair : List ℕ) (pairs : List (List ℕ)) (tree : ImageTree image old.held pairs) (long : length pair ≡ image.width + 6) (many : 31 ≤ capacity image.width) (slot : has_slot image.width pair ≡ true) where
+module _ (image : Image) (old : PagesView) (pair : List ℕ) (pairs : List (List ℕ)) (tree : ImageTree image old.held pairs) (long : length pair ≡ image.width + 6) (many : 31 ≤ node_most image.width) (slot : has_slot image.width pair ≡ true) where
   pub became_whole : (new : PagesView) → Inserts (spot_of image old.held pair pairs tree long) (cells_of (nodes_of image) new.held) [] → StillCounted (nodes_of image) old new (pages_of tree) → Becomes image image old new (pages_of tree) (with_pair pair pairs)
   became_whole new ins counted =
       let row : ins.head ∷ (ins.extra ++ []) ≡ ins.head ∷ [] = ap (λ (r : Row). ins.head ∷ r) (append-nil ins.extra ∙ no_extra ins.extra ins.names_are) in
@@ -131,17 +133,17 @@ module _ (image : Image) (old : PagesView) (pair : List ℕ) (pairs : List (List
       }
 
 -- a new root has room, where the old one was split
-pub root_room : (image : Image) (old : PagesView) (pair : List ℕ) (pairs : List (List ℕ)) (tree : ImageTree image old.held pairs) (long : length pair ≡ image.width + 6) → 31 ≤ capacity image.width → HasSpare image old → (mid : PagesView) (e : Entry) → Inserts (spot_of image old.held pair pairs tree long) (cells_of (nodes_of image) mid.held) (e ∷ []) → image.levels + 1 ≤ old.spare
+pub root_room : (image : Image) (old : PagesView) (pair : List ℕ) (pairs : List (List ℕ)) (tree : ImageTree image old.held pairs) (long : length pair ≡ image.width + 6) → 31 ≤ node_most image.width → HasSpare image old → (mid : PagesView) (e : Entry) → Inserts (spot_of image old.held pair pairs tree long) (cells_of (nodes_of image) mid.held) (e ∷ []) → image.levels + 1 ≤ old.spare
 root_room image old pair pairs tree long many spare mid e ins =
     let room = has_room image old pairs tree many spare in
     let more : 1 ≡ length ins.extra = sym (ap (λ (l : List Entry). length l) ins.names_are) ∙ length-map ins.extra name in
     let all = room.root_room (ins.full_rows (omega (arith, more))) in
     omega (arith, all, tree.tree.high)
 
-pub few_pages : (image : Image) (held : Held) → 31 ≤ capacity image.width → HasFewPages image held
+pub few_pages : (image : Image) (held : Held) → 31 ≤ node_most image.width → HasFewPages image held
 few_pages image held many pairs tree = tree_pages (spells (nodes_of image)) (cells_of (nodes_of image) held) image.width image.root image.levels pairs tree.top tree.lower tree.tree (omega arith)
 
-pub few_levels : (image : Image) (held : Held) → 31 ≤ capacity image.width → HasFewLevels image held
+pub few_levels : (image : Image) (held : Held) → 31 ≤ node_most image.width → HasFewLevels image held
 few_levels image held many pairs tree few = tree_levels (spells (nodes_of image)) (cells_of (nodes_of image) held) image.width image.root image.levels pairs tree.top tree.lower tree.tree (omega arith) (omega (arith, few))
 
 -- the pages spell one tree

@@ -2,12 +2,15 @@
 use Rattle.std.proofs.Common.{true, false, ◌≡◌, ◌≢◌, ⊎_elim, ◌<◌, ◌≤◌, ◌+◌, ◌-◌, ℕ, suc, zero, List, [], ◌∷◌, ◌++◌, length, take, drop, refl, sym, ◌∙◌, ap, subst, arith}
 use Rattle.std.specs.List.{Contains}
 use Rattle.std.proofs.lemmas.List.{length-append, take-append-drop}
-use Rattle.rss_levels.specs.Entries.{Entry, Each, Pairwise, IsIn, IsLess, least, capacity}
-use Rattle.rss_levels.specs.Rows.{Part, Row, Cells, HoldsAt, IsStack, Begins, HasHead, items, numbers, pages, first, link, no_page, stored}
+use Rattle.rss_base.specs.Entries.{Entry, IsLess, no_page}
+use Rattle.rss_base.specs.Nodes.{node_least, node_most}
+use Rattle.rss_levels.specs.Entries.{Each, Pairwise, IsIn}
+use Rattle.rss_levels.specs.Rows.{Part, Row, Cells, HoldsAt, IsStack, Begins, HasHead, items, numbers, pages, first, link, stored}
 use Rattle.rss_levels.specs.Spots.{Keeps, LosesNone, Spot}
 use Rattle.rss_levels.specs.Removes.{Removes, Lowered, Filled, without_pair}
 use Rattle.rss_levels.proofs.Lists.{each_append, each_weaker, each_unmap, pairwise_right, pairwise_cross}
-use Rattle.rss_levels.proofs.Order.{less_never, less_or_same}
+use Rattle.rss_base.proofs.Entries.{less_never}
+use Rattle.rss_levels.proofs.Order.{less_or_same}
 use Rattle.rss_levels.proofs.Rising.{IsLesser}
 use Rattle.rss_levels.proofs.Names.{below_all, child_split}
 use Rattle.rss_levels.proofs.Inserting.{stack_is, each_at}
@@ -56,7 +59,7 @@ module _ (of : Nodes) (old : Cells) (number : ℕ) (pair : List ℕ) (pairs : Li
       let ys : List Entry = drop (suc at) node.entries in
       let cut : spliced node.entries at 1 [] ≡ xs ++ ys = ap (λ (n : ℕ). xs ++ drop n node.entries) one in
       let has : spot.here.items ≡ xs ++ at_place node.entries at ∷ ys = sym own ∙ split_place node.entries at some in
-      let few : length spot.here.items ≤ capacity of.width = spot_few (spells of) old of.width 0 number pair pairs spot in
+      let few : length spot.here.items ≤ node_most of.width = spot_few (spells of) old of.width 0 number pair pairs spot in
       let held_here = subst (λ (n : ℕ). HoldsAt (spells of) new 0 n (first spot.after no_page) (xs ++ ys)) (sym spot.number_is) (subst (λ (n : ℕ). HoldsAt (spells of) new 0 number n (xs ++ ys)) (next_is of old 0 number pair pairs spot node holds) (subst (λ (l : List Entry). HoldsAt (spells of) new 0 number node.next l) cut held)) in
       subst (λ (n : ℕ). Removes spot new n) (sym (ap length cut))
       (leaf_removes (spells of) old of.width 0 number pair pairs spot new flat xs (at_place node.entries at) ys has same left_less held_here (subst (λ (n : ℕ). Keeps (n ∷ []) old new) (sym spot.number_is) keeps) (subst (λ (n : ℕ). LosesNone (n ∷ []) (n ∷ []) old new) (sym spot.number_is) loses)
@@ -77,7 +80,7 @@ one_of P [] n all is = absurd is
 one_of P (m ∷ ns) n all is = ⊎_elim (λ (same : m ≡ n). subst P same all.0) (λ (more : IsIn ns n). one_of P ns n all.1 more) is
 
 module _ (of : Nodes) (old : Cells) (level number : ℕ) (pair : List ℕ) (pairs : List (List ℕ)) (spot : Spot (spells of) old of.width level number pair pairs) (node : NodeView) (holds : HoldsAt (spells of) old level number node.next node.entries)
-    (at : ℕ) (inner : 0 < level) (some : 0 < at) (low : at ≤ length node.entries) (passed : IsPassed true (at_place node.entries (at - 1)).pair pair) (above : at < length node.entries → IsPassed true (at_place node.entries at).pair pair → ⊥) (many : 2 ≤ least of.width) where
+    (at : ℕ) (inner : 0 < level) (some : 0 < at) (low : at ≤ length node.entries) (passed : IsPassed true (at_place node.entries (at - 1)).pair pair) (above : at < length node.entries → IsPassed true (at_place node.entries at).pair pair → ⊥) (many : 2 ≤ node_least of.width) where
   abbrev child : Spot (spells of) old of.width (level - 1) (at_place spot.here.items (at - 1)).child pair pairs
   child = the_child of old level number pair pairs spot node holds at inner some low passed above
 
@@ -105,7 +108,7 @@ module _ (of : Nodes) (old : Cells) (level number : ℕ) (pair : List ℕ) (pair
       let ys = behind_at (spells of) old of.width level number pair pairs spot at inner some low_is passed_is above_is in
       let stack = stack_is (spells of) old of.width level number pair pairs spot rows.row rows.rest rows.is xs e ys has in
       let cut = child_split (spells of) old of.width pair pairs spot.before spot.here spot.after rows.row rows.rest stack xs e ys has in
-      let full : least of.width ≤ length child.here.items = each_at (λ p. least of.width ≤ length p.items) cut.before cut.here cut.after (subst (Each (λ p. least of.width ≤ length p.items)) cut.is stack.1.full) in
+      let full : node_least of.width ≤ length child.here.items = each_at (λ p. node_least of.width ≤ length p.items) cut.before cut.here cut.after (subst (Each (λ p. node_least of.width ≤ length p.items)) cut.is stack.1.full) in
       omega (arith, full, many)
 
   -- what a removal from under the child makes of the rows below
@@ -123,7 +126,7 @@ module _ (of : Nodes) (old : Cells) (level number : ℕ) (pair : List ℕ) (pair
       subst (λ (n : ℕ). Lowered (spells of) old mid of.width (without_pair pair pairs) (items spot.before) (items spot.after) spot.lower spot.here.items n) long
       (subst (λ (l : List Row). Lowered (spells of) old mid of.width (without_pair pair pairs) (items spot.before) (items spot.after) l spot.here.items (length xs)) (sym rows.is) made)
 
-  pub filled_below : (mid : Cells) (count : ℕ) → Removes child mid count → least of.width ≤ count → Filled (spells of) old mid of.width (without_pair pair pairs) (items spot.before) (items spot.after) spot.lower spot.here.items
+  pub filled_below : (mid : Cells) (count : ℕ) → Removes child mid count → node_least of.width ≤ count → Filled (spells of) old mid of.width (without_pair pair pairs) (items spot.before) (items spot.after) spot.lower spot.here.items
   filled_below mid count rem full =
       let has = has_at (spells of) old of.width level number pair pairs spot at inner some low_is passed_is above_is in
       let xs = before_at (spells of) old of.width level number pair pairs spot at inner some low_is passed_is above_is in
@@ -149,7 +152,7 @@ module _ (of : Nodes) (old : Cells) (level number : ℕ) (pair : List ℕ) (pair
   pub inner_cut : (mid new : Cells) (entries : List Entry) → Filled (spells of) old mid of.width (without_pair pair pairs) (items spot.before) (items spot.after) spot.lower entries → ((low : List ℕ) → Begins low spot.here.items → Begins low entries) → length spot.here.items ≤ length entries + 1 → length entries ≤ length spot.here.items
       → HoldsAt (spells of) new level number node.next (stored of.width level entries) → Keeps (number ∷ []) mid new → LosesNone (number ∷ []) (number ∷ []) mid new → Removes spot new (length entries)
   inner_cut mid new entries filled begins lacks fewer held keeps loses =
-      let few : length spot.here.items ≤ capacity of.width = spot_few (spells of) old of.width level number pair pairs spot in
+      let few : length spot.here.items ≤ node_most of.width = spot_few (spells of) old of.width level number pair pairs spot in
       let up : suc (length rows.rest) ≡ level = omega (arith, ap (λ (l : List Row). length l) rows.is, spot.level_is) in
       let next : node.next ≡ no_page = next_is of old level number pair pairs spot node holds ∙ link_inner level (first spot.after no_page) inner in
       let there = subst (λ (n : ℕ). HoldsAt (spells of) new level n no_page (stored of.width level entries)) (sym spot.number_is) (subst (λ (n : ℕ). HoldsAt (spells of) new level number n (stored of.width level entries)) next held) in
@@ -169,7 +172,7 @@ module _ (of : Nodes) (old : Cells) (level number : ℕ) (pair : List ℕ) (pair
   removes_child : (mid : Cells) (count : ℕ) → RemovedFrom of old (level - 1) below_number pair mid count → Removes child mid count
   removes_child mid count does = (subst (λ (n : ℕ). RemovedFrom of old (level - 1) n pair mid count) (child_is of old level number pair pairs spot node holds at inner some low passed above) does) pairs child
 
-  pub removed_full : (mid : Cells) (count : ℕ) → RemovedFrom of old (level - 1) below_number pair mid count → least of.width ≤ count → Removes spot mid (length node.entries)
+  pub removed_full : (mid : Cells) (count : ℕ) → RemovedFrom of old (level - 1) below_number pair mid count → node_least of.width ≤ count → Removes spot mid (length node.entries)
   removed_full mid count does full = inner_full mid (filled_below mid count (removes_child mid count does) full)
 
   pub may_mend : (mid : Cells) (count : ℕ) → RemovedFrom of old (level - 1) below_number pair mid count → 2 ≤ length spot.here.items → MayMend of mid level number (at - 1) node.entries
@@ -207,7 +210,7 @@ removal_node of held level number pair may = record {
 }
 
 pub may_below : (of : Nodes) (held : Held) (level number : ℕ) (pair : List ℕ) (may : MayRemove of held level number pair) (node : NodeView) (holds : HoldsAt (spells of) (cells_of of held) level number node.next node.entries)
-    (at : ℕ) (inner : 0 < level) (some : 0 < at) (low : at ≤ length node.entries) (passed : IsPassed true (at_place node.entries (at - 1)).pair pair) (above : at < length node.entries → IsPassed true (at_place node.entries at).pair pair → ⊥) → 2 ≤ least of.width
+    (at : ℕ) (inner : 0 < level) (some : 0 < at) (low : at ≤ length node.entries) (passed : IsPassed true (at_place node.entries (at - 1)).pair pair) (above : at < length node.entries → IsPassed true (at_place node.entries at).pair pair → ⊥) → 2 ≤ node_least of.width
     → MayRemove of held (level - 1) (at_place node.entries (at - 1)).child pair
 may_below of held level number pair may node holds at inner some low passed above many =
     subst (λ (n : ℕ). MayRemove of held (level - 1) n pair) (sym (child_is of (cells_of of held) level number pair may.pairs may.spot node holds at inner some low passed above))

@@ -2,7 +2,8 @@
 use Rattle.std.proofs.Common.{◌≡◌, ℕ, List, [], subst}
 use Rattle.std.specs.Prelude.{Option, Some, Result, Ok, Err, IfOk, IfSome, OnOk}
 use Rattle.rss_base.specs.Paged.{Held}
-use Rattle.rss_levels.specs.Rows.{first, link, no_page, stored}
+use Rattle.rss_base.specs.Entries.{no_page}
+use Rattle.rss_levels.specs.Rows.{first, link, stored}
 use Rattle.rss_levels.proofs.Spotted.{spot_holds}
 use Rattle.rss_node.specs.declared.pair.Nodes.{Nodes}
 use Rattle.rss_image.specs.Trees.{cells_of, HasNode, spells}

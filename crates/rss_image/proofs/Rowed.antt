@@ -7,11 +7,12 @@ use Rattle.std.proofs.lemmas.List.{length-map, length-replicate, append-nil, map
 use Rattle.std.proofs.lemmas.List.Elements.{All-head, All-tail}
 use Rattle.rss_base.specs.Paged.{Held}
 use Rattle.rss_base.specs.Sizes.{page_entries}
-use Rattle.rss_base.specs.Nodes.{NodeEntry, Node, IsNodeEntry}
+use Rattle.rss_base.specs.Nodes.{NodeEntry, Node, IsNodeEntry, node_least, node_most}
 use Rattle.rss_base.specs.Trees.{Pair, IsBelow, AreRising, pair_of, leaf_entry as base_leaf_entry, Leaf, Reached, both_reached, pairs_of, IsNodeAt, IsAtOrAbove, IsUnder as IsBelowLimit, limit_of, LiesBetween, IsFirstEntry, IsTree as IsBaseTree, is_leaf, is_inner, AreTrees, no_child, one_more, root_least, AreChained, IsImage}
 use Rattle.rss_base.specs.Listings.{AreDifferent}
-use Rattle.rss_levels.specs.Entries.{Entry, IsLess, Each, Pairwise, zeros, least, capacity}
-use Rattle.rss_levels.specs.Rows.{Part, Row, Cells, HoldsAt, HoldsRow, IsStack, IsLeaves, IsAbove, Mark, IsBefore, HasHead, fence, item, marks, marks_of, items, name, names, numbers, first, leaf_entry, no_page, pages}
+use Rattle.rss_base.specs.Entries.{Entry, IsLess, no_page}
+use Rattle.rss_levels.specs.Entries.{Each, Pairwise, zeros}
+use Rattle.rss_levels.specs.Rows.{Part, Row, Cells, HoldsAt, HoldsRow, IsStack, IsLeaves, IsAbove, Mark, IsBefore, HasHead, fence, item, marks, marks_of, items, name, names, numbers, first, leaf_entry, pages}
 use Rattle.rss_levels.specs.Nested.{AreSameNumbers}
 use Rattle.rss_levels.specs.Spots.{IsMade, AreMade}
 use Rattle.rss_levels.proofs.Lists.{each_append, each_left, each_map, each_right, each_two, each_weaker, pairwise_append, pairwise_left, pairwise_right}
@@ -19,7 +20,8 @@ use Rattle.rss_levels.proofs.Order.{before_trans, before_less, fence_from, zeros
 use Rattle.rss_levels.proofs.Held.{held_append}
 use Rattle.rss_levels.proofs.Shuffles.{same_refl, same_trans, same_append, same_swap}
 use Rattle.rss_node.specs.Nodes.{AreNodes}
-use Rattle.rss_node.specs.Pairs.{IsSpelledTid, pair_bytes, entry_of, next_number}
+use Rattle.rss_base.specs.Tids.{IsSpelledTid}
+use Rattle.rss_node.specs.Pairs.{pair_bytes, entry_of, next_number}
 use Rattle.rss_node.specs.declared.pair.Nodes.{Nodes}
 use Rattle.rss_node.proofs.Ordered.{pairs_ordered}
 use Rattle.rss_node.proofs.Spelled.{spelled_page}
@@ -224,10 +226,10 @@ module _ (held : Held) (of : Nodes) (fit : AreNodes of) (numbered : AreNumbered 
 
   -- the rows of a tree of a level, but for the order of leaves
   abbrev pub IsPile : ℕ → ℕ → Row → List Row → Type 0
-  IsPile zero end row [] = HoldsRow (spells of) cells of.width 0 row end × Each (λ p. length p.items ≤ capacity of.width) row
+  IsPile zero end row [] = HoldsRow (spells of) cells of.width 0 row end × Each (λ p. length p.items ≤ node_most of.width) row
   IsPile zero end row (l ∷ rows) = ⊥
   IsPile (suc level) end row [] = ⊥
-  IsPile (suc level) end row (l ∷ rows) = HoldsRow (spells of) cells of.width (suc level) row no_page × Each (λ p. length p.items ≤ capacity of.width) row × IsAbove of.width row l × IsPile level end l rows
+  IsPile (suc level) end row (l ∷ rows) = HoldsRow (spells of) cells of.width (suc level) row no_page × Each (λ p. length p.items ≤ node_most of.width) row × IsAbove of.width row l × IsPile level end l rows
 
   held_inner : (level : ℕ) (row : Row) (a b : ℕ) → HoldsRow (spells of) cells of.width (suc level) row a → HoldsRow (spells of) cells of.width (suc level) row b
   held_inner level [] a b all = tt
@@ -237,11 +239,11 @@ module _ (held : Held) (of : Nodes) (fit : AreNodes of) (numbered : AreNumbered 
   above_join x y l m one two = record {
     heads = each_append HasHead x y one.heads two.heads;
     names_are = flat_map-append (λ (p : Part). p.items) x y ∙ (λ i. one.names_are i ++ two.names_are i) ∙ sym (map-append name l m);
-    full = each_append (λ p. least of.width ≤ length p.items) l m one.full two.full;
+    full = each_append (λ p. node_least of.width ≤ length p.items) l m one.full two.full;
   }
 
   pub pile_join : (level end : ℕ) (x y : Row) (xs ys : List Row) → IsPile level (first (leaf_at y ys) end) x xs → IsPile level end y ys → IsPile level end (x ++ y) (join xs ys)
-  pile_join zero end x y [] [] one two = (held_append (spells of) of.width 0 cells x y end one.0 two.0, each_append (λ p. length p.items ≤ capacity of.width) x y one.1 two.1)
+  pile_join zero end x y [] [] one two = (held_append (spells of) of.width 0 cells x y end one.0 two.0, each_append (λ p. length p.items ≤ node_most of.width) x y one.1 two.1)
   pile_join zero end x y [] (m ∷ ys) one two = absurd two
   pile_join zero end x y (l ∷ xs) [] one two = absurd one
   pile_join zero end x y (l ∷ xs) (m ∷ ys) one two = absurd one
@@ -250,7 +252,7 @@ module _ (held : Held) (of : Nodes) (fit : AreNodes of) (numbered : AreNumbered 
   pile_join (suc level) end x y (l ∷ xs) [] one two = absurd two
   pile_join (suc level) end x y (l ∷ xs) (m ∷ ys) one two = (
     held_append (spells of) of.width (suc level) cells x y no_page (held_inner level x no_page (first y no_page) one.0) two.0,
-    each_append (λ p. length p.items ≤ capacity of.width) x y one.1 two.1,
+    each_append (λ p. length p.items ≤ node_most of.width) x y one.1 two.1,
     above_join x y l m one.2 two.2,
     pile_join level end l m xs ys one.3 two.3,
   )
@@ -303,7 +305,7 @@ module _ (held : Held) (of : Nodes) (fit : AreNodes of) (numbered : AreNumbered 
     row : Row
     lower : List Row
     names_are : names row ≡ named low es
-    full : Each (λ p. least of.width ≤ length p.items) row
+    full : Each (λ p. node_least of.width ≤ length p.items) row
     tall : length lower ≡ level
     pile : IsPile level end row lower
     leaves : AreLeaves (leaf_at row lower) reached.leaves
@@ -428,9 +430,9 @@ module _ (held : Held) (of : Nodes) (fit : AreNodes of) (numbered : AreNumbered 
   bound_of : (bound limit : Option Pair) (low : List ℕ) (e : NodeEntry) (es : List NodeEntry) (one rest : List Pair) → Starts bound low (e ∷ es) (one ++ rest) → LiesBetween bound limit one → Each (IsGood of.width) one → IsBound low one
   bound_of None limit low e es one rest starts between goods = record { fine = starts.0; above = each_left (λ p. IsLess (bytes_of p) low → ⊥) one rest starts.1 }
   bound_of (Some least) limit low e es one rest starts between goods = record {
-    fine = ap good starts.0 ∙ good_slot of.width least starts.1;
+    fine = ap good starts.0 ∙ good_slot of.width node_least starts.1;
     above = each_two (IsGood of.width) (IsAtOrAbove (Some least)) (λ p. IsLess (bytes_of p) low → ⊥) one
-        (λ p fine above less. never_less of.width p least fine starts.1 above (subst (IsLess (bytes_of p)) starts.0 less)) goods (each_of (IsAtOrAbove (Some least)) one between.low);
+        (λ p fine above less. never_less of.width p node_least fine starts.1 above (subst (IsLess (bytes_of p)) starts.0 less)) goods (each_of (IsAtOrAbove (Some least)) one between.low);
   }
 
   -- the pairs under one node are below the next one's entry
@@ -439,8 +441,8 @@ module _ (held : Held) (of : Nodes) (fit : AreNodes of) (numbered : AreNumbered 
       (each_two (IsGood of.width) (IsBelowLimit (Some (pair_of e))) (λ p. IsLess (bytes_of p) (bytes_of (pair_of e))) one (λ p here below. less_of of.width p (pair_of e) here fine below) goods (each_of (IsBelowLimit (Some (pair_of e))) one between.high))
 
   -- one node beside others
-  beside : (level end : ℕ) (bound : Option Pair) (low : List ℕ) (e : NodeEntry) (es : List NodeEntry) (one others : Reached) (mid : ℕ) → (rest : TreesRows level (next_low es) es others end) → mid ≡ first (leaf_at rest.row rest.lower) end → TreeRows level (least of.width) e.child low one mid
-      → LiesBetween bound (limit_of es) (pairs_of one.leaves) → Each (λ d. IsGood of.width (pair_of d)) es → Each (IsGood of.width) (pairs_of one.leaves) → 0 < least of.width → TreesRows level low (e ∷ es) (both_reached one others) end
+  beside : (level end : ℕ) (bound : Option Pair) (low : List ℕ) (e : NodeEntry) (es : List NodeEntry) (one others : Reached) (mid : ℕ) → (rest : TreesRows level (next_low es) es others end) → mid ≡ first (leaf_at rest.row rest.lower) end → TreeRows level (node_least of.width) e.child low one mid
+      → LiesBetween bound (limit_of es) (pairs_of one.leaves) → Each (λ d. IsGood of.width (pair_of d)) es → Each (IsGood of.width) (pairs_of one.leaves) → 0 < node_least of.width → TreesRows level low (e ∷ es) (both_reached one others) end
   beside level end bound low e es one others mid rest mid_is tree between fine goods pos =
       let tall : length tree.lower ≡ length rest.lower = tree.tall ∙ sym rest.tall in
       let x : Row = tree.part ∷ [] in
@@ -486,7 +488,7 @@ module _ (held : Held) (of : Nodes) (fit : AreNodes of) (numbered : AreNumbered 
     all_goods no_child = tt
     all_goods (one_more {one = one} {rest = rest} tree between others) = subst (Each (IsGood of.width)) (sym (flat_pairs one.leaves rest.leaves)) (each_append (IsGood of.width) (pairs_of one.leaves) (pairs_of rest.leaves) (goods_of tree) (all_goods others))
 
-  filled_one : 0 < least of.width
+  filled_one : 0 < node_least of.width
   filled_one = let most = many of.width fit.narrow in omega (arith, most)
 
   mutual

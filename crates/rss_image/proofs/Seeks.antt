@@ -1,8 +1,9 @@
 -- A pair that is sought, by what the calls say.
 use Rattle.std.proofs.Common.{◌≡◌, ◌<◌, ◌≤◌, ℕ, suc, Bool, true, false, List, [], ◌∷◌, ◌++◌, length, take, drop, refl, sym, ◌∙◌, ap, subst, arith, Some, None}
 use Rattle.std.proofs.lemmas.List.{take_all}
-use Rattle.rss_levels.specs.Entries.{Entry, Each, IsLess}
-use Rattle.rss_levels.specs.Rows.{Part, Row, Cells, HoldsAt, HoldsRow, IsStack, first, link, no_page}
+use Rattle.rss_base.specs.Entries.{Entry, IsLess, no_page}
+use Rattle.rss_levels.specs.Entries.{Each}
+use Rattle.rss_levels.specs.Rows.{Part, Row, Cells, HoldsAt, HoldsRow, IsStack, first, link}
 use Rattle.rss_levels.specs.Spots.{Spot}
 use Rattle.rss_levels.specs.Sought.{first_from, IsPassedBy}
 use Rattle.rss_levels.proofs.Held.{held_right}

@@ -1,7 +1,7 @@
 -- The pairs that were seen of a tree.
 use Rattle.std.proofs.Common.{◌≡◌, ◌<◌, ◌≤◌, ◌-◌, ℕ, suc, zero, List, [], ◌∷◌, length, drop, refl, ◌∙◌, ap, arith, Some}
 use Rattle.rss_base.specs.declared.tid.Tid.{Tid}
-use Rattle.rss_levels.specs.Entries.{Entry}
+use Rattle.rss_base.specs.Entries.{Entry}
 use Rattle.rss_levels.proofs.Spotted.{at_place}
 use Rattle.rss_node.specs.Pairs.{key_from, tid_from}
 use Rattle.rss_image.specs.Checking.{AreSeen, pairs_in, first_keyed, first_repeat, repeated, with_seen}

@@ -6,8 +6,9 @@ use Rattle.rss_base.specs.Paged.{Held, page_key}
 use Rattle.rss_base.specs.Steps.{PagesView}
 use Rattle.rss_base.specs.declared.key.PageKey.{PageKey}
 use Rattle.rss_base.specs.declared.key.Space.TheVariants.{Image as ImageSpace}
-use Rattle.rss_levels.specs.Entries.{Entry, Each, Pairwise, zeros}
-use Rattle.rss_levels.specs.Rows.{Part, Row, Cells, HoldsRow, HasHead, Begins, IsBefore, IsStack, first, items, link, marks, pages, stored, leaf_entry, no_page}
+use Rattle.rss_base.specs.Entries.{Entry, no_page}
+use Rattle.rss_levels.specs.Entries.{Each, Pairwise, zeros}
+use Rattle.rss_levels.specs.Rows.{Part, Row, Cells, HoldsRow, HasHead, Begins, IsBefore, IsStack, first, items, link, marks, pages, stored, leaf_entry}
 use Rattle.rss_levels.specs.Nested.{IsUnder, AreUnder, leaf_under, inner_under, more_under, none_under}
 use Rattle.rss_levels.specs.Spots.{IsMade, AreMade}
 use Rattle.rss_levels.proofs.Lists.{each_left, each_right, each_weaker}

@@ -8,11 +8,13 @@ use Rattle.std.specs.declared.cmp.Ordering.TheVariants.{Less, Equal, Greater}
 use Rattle.std.proofs.lemmas.List.{take_all}
 use Rattle.rss_base.specs.Trees.{Pair}
 use Rattle.rss_base.specs.declared.tid.Tid.{Tid}
-use Rattle.rss_levels.specs.Entries.{Entry, IsLess, Each, Pairwise}
-use Rattle.rss_levels.proofs.Order.{greater_less, less_trans}
+use Rattle.rss_base.specs.Entries.{Entry, IsLess}
+use Rattle.rss_levels.specs.Entries.{Each, Pairwise}
+use Rattle.rss_base.proofs.Entries.{greater_less, less_trans}
 use Rattle.rss_levels.proofs.Rising.{IsLesser}
 use Rattle.rss_levels.proofs.Spotted.{at_place, each_take}
-use Rattle.rss_node.specs.Pairs.{IsSpelledTid, pair_bytes, tid_from}
+use Rattle.rss_base.specs.Tids.{IsSpelledTid}
+use Rattle.rss_node.specs.Pairs.{pair_bytes, tid_from}
 use Rattle.rss_node.proofs.Agreed.{pair_said}
 use Rattle.rss_image.specs.Fitting.{IsUnderLimit, AreBetween}
 

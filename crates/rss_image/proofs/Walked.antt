@@ -3,8 +3,10 @@ use Rattle.std.proofs.Common.{◌≡◌, ◌<◌, ◌≤◌, ◌+◌, ◌-◌, �
 use Rattle.std.proofs.lemmas.Grind.{flat_map-append}
 use Rattle.std.proofs.lemmas.List.{length-append}
 use Rattle.rss_base.specs.Paged.{Held}
-use Rattle.rss_levels.specs.Entries.{Entry, Each, Pairwise, least, zeros}
-use Rattle.rss_levels.specs.Rows.{Part, Row, Cells, HoldsAt, IsBefore, first, marks, marks_of, name, names, stored, no_page}
+use Rattle.rss_base.specs.Entries.{Entry, no_page}
+use Rattle.rss_base.specs.Nodes.{node_least}
+use Rattle.rss_levels.specs.Entries.{Each, Pairwise, zeros}
+use Rattle.rss_levels.specs.Rows.{Part, Row, Cells, HoldsAt, IsBefore, first, marks, marks_of, name, names, stored}
 use Rattle.rss_levels.specs.Nested.{IsUnder, AreUnder, leaf_under, inner_under, none_under, more_under}
 use Rattle.rss_levels.proofs.Held.{first_append}
 use Rattle.rss_levels.proofs.Lists.{each_right, pairwise_right}
@@ -77,7 +79,7 @@ module _ (of : Nodes) (slots : ℕ) (held : Held) where
     pub ns : List ℕ
     pub leaves : Row
     pub names_are : names parts ≡ drop at (with_bound low entries)
-    pub full : Each (λ q. least of.width ≤ length q.items) parts
+    pub full : Each (λ q. node_least of.width ≤ length q.items) parts
     pub under : AreUnder (IsFine of slots) cells of.width level parts ns leaves (first row no_page)
     pub rises : Pairwise IsBefore (marks (leaves ++ row))
     pub seen_is : IsSeen of.width (leaves ++ row) (pages + length ns) seen
@@ -95,7 +97,7 @@ module _ (of : Nodes) (slots : ℕ) (held : Held) where
   }
 
   pub more_walked : (level : ℕ) (low : List ℕ) (entries : List Entry) (at : ℕ) (row : Row) (pages number : ℕ) (bound : List ℕ) (before after : Seen) → 0 < at → at ≤ length entries → number ≡ (at_place entries (at - 1)).child → bound ≡ (at_place (with_bound low entries) (at - 1)).pair
-      → (walked : Walked level low entries at row pages before) → IsSeenUnder of slots held level number bound (least of.width) (walked.leaves ++ row) before.pages after → Walked level low entries (at - 1) row pages after
+      → (walked : Walked level low entries at row pages before) → IsSeenUnder of slots held level number bound (node_least of.width) (walked.leaves ++ row) before.pages after → Walked level low entries (at - 1) row pages after
   more_walked level low entries at row pages number bound before after some within child_is bound_is walked passed =
       let s = passed.stands in
       let long = named_long low entries in
@@ -191,8 +193,8 @@ module _ (of : Nodes) (slots : ℕ) (held : Held) where
       at _ p _ leaves leaf same low_is rises holds (inner_under there head are full under) = absurd (omega (arith, leaf))
 
   child_before : (level : ℕ) (low : List ℕ) (entries : List Entry) (at : ℕ) (row : Row) (pages child : ℕ) (bound : List ℕ) (seen : Seen) → 0 < at → at ≤ length entries → child ≡ (at_place entries (at - 1)).child → bound ≡ (at_place (with_bound low entries) (at - 1)).pair
-      → (walked : Walked level low entries at row (pages + 1) seen) (parts : Row) (ns : List ℕ) (leaves : Row) → names parts ≡ with_bound low entries → Each (λ q. least of.width ≤ length q.items) parts → AreUnder (IsFine of slots) cells of.width level parts ns leaves (first row no_page)
-      → Pairwise IsBefore (marks (leaves ++ row)) → pages + suc (length ns) ≤ slots → HasChild of slots held level child bound (least of.width) (walked.leaves ++ row) seen
+      → (walked : Walked level low entries at row (pages + 1) seen) (parts : Row) (ns : List ℕ) (leaves : Row) → names parts ≡ with_bound low entries → Each (λ q. node_least of.width ≤ length q.items) parts → AreUnder (IsFine of slots) cells of.width level parts ns leaves (first row no_page)
+      → Pairwise IsBefore (marks (leaves ++ row)) → pages + suc (length ns) ≤ slots → HasChild of slots held level child bound (node_least of.width) (walked.leaves ++ row) seen
   child_before level low entries at row pages child bound seen some within child_is bound_is walked parts ns leaves are full under rises room =
       let all : List Entry = with_bound low entries in
       let place : suc (at - 1) ≡ at = omega (arith, some) in
@@ -203,10 +205,10 @@ module _ (of : Nodes) (slots : ℕ) (held : Held) where
       let joined : leaves ++ row ≡ two.leaves_one ++ (two.leaves_two ++ row) = ap (λ (r : Row). r ++ row) two.leaves_is ∙ append_assoc two.leaves_one two.leaves_two row in
       let behind = rises_behind two.leaves_one (two.leaves_two ++ row) (subst (λ (r : Row). Pairwise IsBefore (marks r)) joined rises) in
       let longer = ap length two.ns_is ∙ length-append two.ns_one two.ns_two in
-      at_child cut.two two.ns_two two.leaves_two cut.two_is (each_right (λ q. least of.width ≤ length q.items) cut.one cut.two (subst (Each (λ q. least of.width ≤ length q.items)) cut.is full)) two.under_two behind (omega (arith, room, longer))
+      at_child cut.two two.ns_two two.leaves_two cut.two_is (each_right (λ q. node_least of.width ≤ length q.items) cut.one cut.two (subst (Each (λ q. node_least of.width ≤ length q.items)) cut.is full)) two.under_two behind (omega (arith, room, longer))
     where
-      at_child : (parts : Row) (ns : List ℕ) (leaves : Row) → names parts ≡ at_place (with_bound low entries) (at - 1) ∷ drop at (with_bound low entries) → Each (λ q. least of.width ≤ length q.items) parts → AreUnder (IsFine of slots) cells of.width level parts ns leaves (first row no_page)
-          → Pairwise IsBefore (marks (leaves ++ row)) → pages + suc (length ns) ≤ slots → HasChild of slots held level child bound (least of.width) (walked.leaves ++ row) seen
+      at_child : (parts : Row) (ns : List ℕ) (leaves : Row) → names parts ≡ at_place (with_bound low entries) (at - 1) ∷ drop at (with_bound low entries) → Each (λ q. node_least of.width ≤ length q.items) parts → AreUnder (IsFine of slots) cells of.width level parts ns leaves (first row no_page)
+          → Pairwise IsBefore (marks (leaves ++ row)) → pages + suc (length ns) ≤ slots → HasChild of slots held level child bound (node_least of.width) (walked.leaves ++ row) seen
       at_child [] ns leaves are full under rises room = absurd (cc)
       at_child (c ∷ rest) _ _ are full (more_under {ns = ns} {ms = ms} {leaves = leaves} {more = more} here behind) rises room =
           let mine : name c ≡ at_place (with_bound low entries) (at - 1) = cc in
@@ -229,11 +231,11 @@ module _ (of : Nodes) (slots : ℕ) (held : Held) where
           }
 
   pub has_child : (level number : ℕ) (low : List ℕ) (fewest next : ℕ) (entries : List Entry) (at : ℕ) (row : Row) (pages child : ℕ) (bound : List ℕ) (seen : Seen) → 0 < level → 0 < at → at ≤ length entries → child ≡ (at_place entries (at - 1)).child → bound ≡ (at_place (with_bound low entries) (at - 1)).pair
-      → Holds level number next entries → (walked : Walked (level - 1) low entries at row (pages + 1) seen) (stands : StandsBefore of slots held level number low fewest row) → pages + length stands.ns ≤ slots → HasChild of slots held (level - 1) child bound (least of.width) (walked.leaves ++ row) seen
+      → Holds level number next entries → (walked : Walked (level - 1) low entries at row (pages + 1) seen) (stands : StandsBefore of slots held level number low fewest row) → pages + length stands.ns ≤ slots → HasChild of slots held (level - 1) child bound (node_least of.width) (walked.leaves ++ row) seen
   has_child level number low fewest next entries at row pages child bound seen inner some within child_is bound_is holds walked stands room = down level stands.part stands.ns stands.leaves inner stands.number_is stands.low_is stands.rises holds room walked stands.under
     where
       down : (level : ℕ) (p : Part) (ns : List ℕ) (leaves : Row) → 0 < level → p.number ≡ number → p.low ≡ low → Pairwise IsBefore (marks (leaves ++ row)) → Holds level number next entries → pages + length ns ≤ slots → (walked : Walked (level - 1) low entries at row (pages + 1) seen)
-          → IsUnder (IsFine of slots) cells of.width level p ns leaves (first row no_page) → HasChild of slots held (level - 1) child bound (least of.width) (walked.leaves ++ row) seen
+          → IsUnder (IsFine of slots) cells of.width level p ns leaves (first row no_page) → HasChild of slots held (level - 1) child bound (node_least of.width) (walked.leaves ++ row) seen
       down _ p _ _ inner same low_is rises holds room walked (leaf_under there) = absurd (omega (arith, inner))
       down _ p _ leaves inner same low_is rises holds room walked (inner_under {level = l} {row = parts} {ns = ns} there head are full under) =
           let mine : Holds (suc l) number no_page (stored of.width (suc l) p.items) = subst (λ (n : ℕ). Holds (suc l) n no_page (stored of.width (suc l) p.items)) same there in

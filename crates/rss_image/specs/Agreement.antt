@@ -4,7 +4,8 @@ use Rattle.rss_base.specs.Paged.{Held}
 use Rattle.rss_base.specs.Nodes.{NodesOf}
 use Rattle.rss_base.specs.Trees.{Pair, IsImage}
 use Rattle.rss_base.specs.Listings.{AreDifferent}
-use Rattle.rss_levels.specs.Rows.{Cells, no_page}
+use Rattle.rss_base.specs.Entries.{no_page}
+use Rattle.rss_levels.specs.Rows.{Cells}
 use Rattle.rss_levels.specs.Nested.{AreSameNumbers}
 use Rattle.rss_node.specs.Nodes.{AreNodes}
 use Rattle.rss_node.specs.Pairs.{pair_bytes, pair_from}

@@ -5,8 +5,9 @@ use Rattle.std.specs.Cmp.Lexicographic.{slice_cmp}
 use Rattle.rss_base.specs.Paged.{Held}
 use Rattle.rss_base.specs.Steps.{PagesView}
 use Rattle.rss_base.specs.declared.tid.Tid.{Tid}
-use Rattle.rss_levels.specs.Entries.{Entry, Pairwise}
-use Rattle.rss_levels.specs.Rows.{Part, Row, HoldsAt, IsBefore, first, items, marks, no_page}
+use Rattle.rss_base.specs.Entries.{Entry, no_page}
+use Rattle.rss_levels.specs.Entries.{Pairwise}
+use Rattle.rss_levels.specs.Rows.{Part, Row, HoldsAt, IsBefore, first, items, marks}
 use Rattle.rss_levels.specs.Nested.{IsUnder}
 use Rattle.rss_levels.specs.Spots.{AreMade}
 use Rattle.rss_node.specs.Pairs.{key_from, tid_from}

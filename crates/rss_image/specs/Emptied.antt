@@ -2,7 +2,8 @@
 use Rattle.std.specs.Prelude.{◌≡◌, ◌≢◌, ℕ, zero, suc, ◌+◌, ◌*◌, List, []}
 use Rattle.rss_base.specs.Paged.{Held}
 use Rattle.rss_base.specs.Steps.{PagesView}
-use Rattle.rss_levels.specs.Entries.{Pairwise, capacity}
+use Rattle.rss_base.specs.Nodes.{node_most}
+use Rattle.rss_levels.specs.Entries.{Pairwise}
 use Rattle.rss_levels.specs.Rows.{Part, Row}
 use Rattle.rss_levels.specs.Nested.{IsUnder}
 use Rattle.rss_node.specs.declared.pair.Nodes.{Nodes}
@@ -11,7 +12,7 @@ use Rattle.rss_image.specs.Trees.{cells_of, spells, KeepsPages, LosesNoPage}
 -- how many nodes above the leaves there are at most under a node of a level
 abbrev pub inner_most : ℕ → ℕ → ℕ
 inner_most width zero = 0
-inner_most width (suc level) = 1 + capacity width * inner_most width level
+inner_most width (suc level) = 1 + node_most width * inner_most width level
 
 -- the page of this number is a node's, under which these pages stand, each once
 pub record StandsAt (of : Nodes) (held : Held) (level number : ℕ) (ns : List ℕ) : Type 0 where

@@ -1,7 +1,8 @@
 -- What is asked of a node by itself, where an image is checked.
 use Rattle.std.specs.Prelude.{◌≡◌, ℕ, ◌<◌, true, List, Option, Some, None}
-use Rattle.rss_levels.specs.Entries.{Entry, IsLess, Each, Pairwise, zeros}
-use Rattle.rss_levels.specs.Rows.{Begins, no_page}
+use Rattle.rss_base.specs.Entries.{Entry, IsLess, no_page}
+use Rattle.rss_levels.specs.Entries.{Each, Pairwise, zeros}
+use Rattle.rss_levels.specs.Rows.{Begins}
 use Rattle.rss_node.specs.declared.pair.Nodes.{Nodes}
 use Rattle.rss_image.specs.Trees.{spells}
 use Rattle.rss_image.specs.Images.{has_slot, has_page}

@@ -1,7 +1,8 @@
 -- A node into which an entry was put: it stays whole, or becomes two.
 use Rattle.std.specs.Prelude.{◌≡◌, ℕ, suc, zero, ◌<◌, ◌≤◌, List, [], ◌∷◌, ◌++◌, length, take, drop, Option, Some, None}
-use Rattle.rss_levels.specs.Entries.{Entry, capacity, least}
-use Rattle.rss_levels.specs.Rows.{Cells, HoldsAt, no_page, stored, Begins}
+use Rattle.rss_base.specs.Entries.{Entry, no_page}
+use Rattle.rss_base.specs.Nodes.{node_most, node_least}
+use Rattle.rss_levels.specs.Rows.{Cells, HoldsAt, stored, Begins}
 use Rattle.rss_levels.specs.Spots.{Keeps, LosesNone}
 use Rattle.rss_node.specs.declared.pair.Nodes.{Nodes}
 use Rattle.rss_image.specs.Trees.{spells}
@@ -23,7 +24,7 @@ right_next (suc level) next = no_page
 -- the node has these entries now
 pub record Whole (of : Nodes) (level number next : ℕ) (entries : List Entry) (old new : Cells) : Type 0 where
   pub held : HoldsAt (spells of) new level number next entries
-  pub few : length entries ≤ capacity of.width
+  pub few : length entries ≤ node_most of.width
   pub keeps : Keeps (number ∷ []) old new
   pub loses_none : LosesNone (number ∷ []) (number ∷ []) old new
 
@@ -32,12 +33,12 @@ pub record Halved (of : Nodes) (level number next : ℕ) (entries : List Entry) 
   pub left : List Entry
   pub right : List Entry
   pub entries_are : entries ≡ left ++ right
-  pub many : capacity of.width < length entries
+  pub many : node_most of.width < length entries
   pub begins : Begins pair right
-  pub left_full : least of.width < length left
-  pub right_full : least of.width ≤ length right
-  pub left_few : length left ≤ capacity of.width
-  pub right_few : length right ≤ capacity of.width
+  pub left_full : node_least of.width < length left
+  pub right_full : node_least of.width ≤ length right
+  pub left_few : length left ≤ node_most of.width
+  pub right_few : length right ≤ node_most of.width
   pub left_held : HoldsAt (spells of) new level number (left_next level next other) left
   pub right_held : HoldsAt (spells of) new level other (right_next level next) (stored of.width level right)
   pub fresh : old other ≡ None

@@ -5,8 +5,10 @@ use Rattle.std.specs.Ordering.{nat_cmp, is_lt}
 use Rattle.rss_base.specs.Paged.{Held}
 use Rattle.rss_base.specs.Sizes.{page_entries}
 use Rattle.rss_base.specs.Steps.{PagesView}
-use Rattle.rss_levels.specs.Entries.{Entry, Each, IsIn, zeros, least}
-use Rattle.rss_levels.specs.Rows.{Part, Row, HoldsAt, IsTree, no_page, pages}
+use Rattle.rss_base.specs.Entries.{Entry, no_page}
+use Rattle.rss_base.specs.Nodes.{node_least}
+use Rattle.rss_levels.specs.Entries.{Each, IsIn, zeros}
+use Rattle.rss_levels.specs.Rows.{Part, Row, HoldsAt, IsTree, pages}
 use Rattle.rss_levels.specs.Sought.{first_from}
 use Rattle.rss_levels.specs.Spots.{IsOwn, AreMade, with_pair}
 use Rattle.rss_levels.specs.Removes.{without_pair}
@@ -126,7 +128,7 @@ Has pair image view has = (pairs : List (List ℕ)) → ImageTree image view.hel
 
 -- An image of so many pairs has at most so many pages.
 abbrev pub page_bound : ℕ → ℕ → ℕ
-page_bound width count = count / (least width - 1) + 2
+page_bound width count = count / (node_least width - 1) + 2
 
 -- So many pages can be taken as an image with one pair more may have beyond its own.
 abbrev pub HasSpare : Image → PagesView → Type 0

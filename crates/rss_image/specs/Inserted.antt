@@ -2,7 +2,8 @@
 use Rattle.std.specs.Prelude.{◌≢◌, ℕ, List, [], ◌∷◌, Option, Some, None}
 use Rattle.rss_base.specs.Paged.{Held}
 use Rattle.rss_base.specs.Steps.{PagesView}
-use Rattle.rss_levels.specs.Entries.{Entry, Each}
+use Rattle.rss_base.specs.Entries.{Entry}
+use Rattle.rss_levels.specs.Entries.{Each}
 use Rattle.rss_levels.specs.Spots.{Spot, Inserts, HasRoom, rows_at}
 use Rattle.rss_node.specs.declared.pair.Nodes.{Nodes}
 use Rattle.rss_image.specs.Trees.{cells_of, spells}

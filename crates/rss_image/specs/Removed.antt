@@ -2,7 +2,8 @@
 use Rattle.std.specs.Prelude.{◌≡◌, ℕ, suc, zero, ◌+◌, ◌/◌, ◌<◌, ◌≤◌, List, [], ◌∷◌, ◌++◌, length, take, drop, Contains, Option, Some, None}
 use Rattle.rss_base.specs.Paged.{Held}
 use Rattle.rss_base.specs.Steps.{PagesView}
-use Rattle.rss_levels.specs.Entries.{Entry, IsIn, zeros}
+use Rattle.rss_base.specs.Entries.{Entry}
+use Rattle.rss_levels.specs.Entries.{IsIn, zeros}
 use Rattle.rss_levels.specs.Rows.{Part, Row, Cells, HoldsAt, Begins, names, pages, stored}
 use Rattle.rss_levels.specs.Spots.{Keeps, LosesNone}
 use Rattle.rss_levels.specs.Removes.{Removes, Neighbours, Evens, Lowered, Filled}

@@ -3,7 +3,7 @@ use Rattle.std.specs.Prelude.{ℕ, List, [], ◌∷◌}
 use Rattle.rss_base.specs.Paged.{Held, page_key}
 use Rattle.rss_base.specs.Steps.{PagesView}
 use Rattle.rss_base.specs.declared.key.Space.TheVariants.{Image}
-use Rattle.rss_levels.specs.Entries.{Entry}
+use Rattle.rss_base.specs.Entries.{Entry}
 use Rattle.rss_levels.specs.Rows.{Cells, Spell, HoldsAt}
 use Rattle.rss_levels.specs.Spots.{Keeps, LosesNone}
 use Rattle.rss_node.specs.Nodes.{NodeView, Spells}

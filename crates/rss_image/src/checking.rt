@@ -2,8 +2,10 @@
 ghost use Rattle.std.specs.Prelude.{◌≡◌, ℕ, ◌+◌, ◌*◌, ◌<◌, ◌≤◌, ◌++◌, ◌∷◌, ◌^◌, List, [], None, true, false, IfOk, IfSome, length};
 ghost use Rattle.rss_base.specs.DiskRule.{IsTold};
 ghost use Rattle.rss_base.specs.Steps.{PagesCall, no_page as no_pages};
-ghost use Rattle.rss_levels.specs.Entries.{Entry, Pairwise, least};
-ghost use Rattle.rss_levels.specs.Rows.{Row, HoldsAt, IsBefore, first, marks, no_page};
+ghost use Rattle.rss_base.specs.Entries.{Entry, no_page};
+ghost use Rattle.rss_base.specs.Nodes.{node_least};
+ghost use Rattle.rss_levels.specs.Entries.{Pairwise};
+ghost use Rattle.rss_levels.specs.Rows.{Row, HoldsAt, IsBefore, first, marks};
 ghost use Rattle.rss_node.specs.Nodes.{AreNodes, IsNodeOf, entry_at};
 ghost use Rattle.rss_image.specs.Trees.{cells_of};
 ghost use Rattle.rss_image.specs.Images.{nodes_of};

@@ -4,7 +4,7 @@ ghost use Rattle.rss_base.specs.DiskRule.{IsTold};
 ghost use Rattle.rss_base.specs.Paged.{page_key};
 ghost use Rattle.rss_base.specs.Steps.{PagesCall, pages_in};
 ghost use Rattle.rss_base.specs.declared.key.Space.TheVariants.{Image};
-ghost use Rattle.rss_levels.specs.Entries.{capacity};
+ghost use Rattle.rss_base.specs.Nodes.{node_most};
 ghost use Rattle.rss_node.specs.Nodes.{AreNodes, IsNodeOf, with_entries, with_next, entry_at};
 ghost use Rattle.rss_image.specs.Trees.{cells_of};
 ghost use Rattle.rss_image.specs.Removed.{first_named, HasNeighbours, Evened, Joined, Shared};
@@ -31,7 +31,7 @@ fn name_first(node: &mut Node, level: u8, pair: &Pair)
 /// Moves all entries of a node to the one before it.
 fn merge(left: &mut Node, right: &Node)
     requires width { right.now.width ≡ left.old.width }
-    requires room { length left.old.entries + length right.now.entries ≤ capacity left.old.width }
+    requires room { length left.old.entries + length right.now.entries ≤ node_most left.old.width }
     ensures { left.new ≡ with_next (with_entries left.old
         (left.old.entries ++ right.now.entries)) right.now.next }
 {
@@ -74,7 +74,7 @@ fn join_nodes<P: Pages>(
 ) -> Result<(), PageFault>
     requires left { IsNodeOf of level number left.old }
     requires right { IsNodeOf of level other right.now }
-    requires room { length left.old.entries + length right.now.entries ≤ capacity of.width }
+    requires room { length left.old.entries + length right.now.entries ≤ node_most of.width }
     requires left_mapped { IsTold (P.view pages.old).disk
         → (P.view pages.old).mapped (page_key of.segment Image number) ≡ true }
     requires right_mapped { IsTold (P.view pages.old).disk

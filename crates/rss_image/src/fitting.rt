@@ -2,9 +2,11 @@
 ghost use Rattle.std.specs.Prelude.{◌≡◌, ◌+◌, ◌<◌, ◌≤◌, true, false, length};
 ghost use Rattle.std.specs.Ordering.{nat_cmp};
 ghost use Rattle.std.specs.Cmp.Lexicographic.{slice_cmp};
-ghost use Rattle.rss_levels.specs.Entries.{IsLess, Each};
+ghost use Rattle.rss_base.specs.Entries.{IsLess};
+ghost use Rattle.rss_levels.specs.Entries.{Each};
 ghost use Rattle.rss_node.specs.Nodes.{entry_at};
-ghost use Rattle.rss_node.specs.Pairs.{IsSpelledTid, key_from, tid_from};
+ghost use Rattle.rss_base.specs.Tids.{IsSpelledTid};
+ghost use Rattle.rss_node.specs.Pairs.{key_from, tid_from};
 ghost use Rattle.rss_image.specs.Images.{has_slot, has_page};
 ghost use Rattle.rss_image.specs.Fitting.{IsFineEntry, IsBranch, IsFit, IsUnderLimit, AreBetween};
 

@@ -4,7 +4,7 @@ ghost use Rattle.rss_base.specs.DiskRule.{IsTold};
 ghost use Rattle.rss_base.specs.Paged.{page_key};
 ghost use Rattle.rss_base.specs.Steps.{PagesCall, pages_in};
 ghost use Rattle.rss_base.specs.declared.key.Space.TheVariants.{Image};
-ghost use Rattle.rss_levels.specs.Entries.{capacity};
+ghost use Rattle.rss_base.specs.Nodes.{node_most};
 ghost use Rattle.rss_node.specs.Nodes.{AreNodes, IsNodeOf};
 ghost use Rattle.rss_image.specs.Trees.{cells_of};
 ghost use Rattle.rss_image.specs.Grown.{put_at, Grown, Halved};
@@ -34,7 +34,7 @@ pub(crate) fn grow<P: Pages>(
     requires mapped { IsTold (P.view pages.old).disk
         → (P.view pages.old).mapped (page_key of.segment Image number) ≡ true }
     requires room { IsTold (P.view pages.old).disk
-        → capacity of.width ≤ length node.old.entries → 0 < (P.view pages.old).spare }
+        → node_most of.width ≤ length node.old.entries → 0 < (P.view pages.old).spare }
     ensures grown { IfOk result (λ split. IsTold (P.view pages.old).disk
         → Grown of level number node.old.next
         (put_at node.old.entries at (record { pair = pair.now; child = child }))
@@ -66,7 +66,7 @@ fn divide<P: Pages>(
 ) -> Result<Split, PageFault>
     requires of { AreNodes of }
     requires is { IsNodeOf of level number node.old }
-    requires full { length node.old.entries ≡ capacity of.width }
+    requires full { length node.old.entries ≡ node_most of.width }
     requires at { at ≤ length node.old.entries }
     requires long { length pair.now ≡ of.width + 6 }
     requires mapped { IsTold (P.view pages.old).disk

@@ -1,7 +1,9 @@
 // A node that becomes two.
 ghost use Rattle.std.specs.Prelude.{◌≡◌, ◌+◌, ◌<◌, ◌≤◌, [], ◌∷◌, length, take, drop};
-ghost use Rattle.rss_levels.specs.Entries.{capacity, least, zeros};
-ghost use Rattle.rss_levels.specs.Rows.{no_page, stored};
+ghost use Rattle.rss_base.specs.Nodes.{node_most, node_least};
+ghost use Rattle.rss_levels.specs.Entries.{zeros};
+ghost use Rattle.rss_base.specs.Entries.{no_page};
+ghost use Rattle.rss_levels.specs.Rows.{stored};
 ghost use Rattle.rss_node.specs.Nodes.{with_entries, with_next};
 ghost use Rattle.rss_image.specs.Grown.{put_at, left_next, right_next};
 
@@ -35,15 +37,15 @@ fn front(bytes: &[u8], count: usize) -> &[u8]
 
 /// Puts an entry into a node that has no room for it, and moves the upper half to another node.
 pub(crate) fn halve(node: &mut Node, right: &mut Node, at: usize, pair: &Pair, child: u32)
-    requires full { length node.old.entries ≡ capacity node.old.width }
-    requires many { 2 ≤ capacity node.old.width }
+    requires full { length node.old.entries ≡ node_most node.old.width }
+    requires many { 2 ≤ node_most node.old.width }
     requires at { at ≤ length node.old.entries }
     requires empty { right.old.entries ≡ [] }
     requires width { right.old.width ≡ node.old.width }
     requires long { length pair.now ≡ node.old.width + 6 }
-    ensures left { node.new ≡ with_entries node.old (take (least node.old.width + 1)
+    ensures left { node.new ≡ with_entries node.old (take (node_least node.old.width + 1)
         (put_at node.old.entries at (record { pair = pair.now; child = child }))) }
-    ensures right { right.new ≡ with_entries right.old (drop (least node.old.width + 1)
+    ensures right { right.new ≡ with_entries right.old (drop (node_least node.old.width + 1)
         (put_at node.old.entries at (record { pair = pair.now; child = child }))) }
 {
     let count = node.count();

@@ -3,7 +3,8 @@ use Rattle.std.proofs.lemmas.Grind.{flat_map-append}
 use Rattle.std.proofs.Common.{◌<◌, ◌≤◌, ◌≡◌, zero, ⊎_elim, ℕ, suc, ◌+◌, ◌-◌, ◌*◌, ◌/◌, List, [], ◌∷◌, ◌++◌, length, map, refl, ◌∙◌, ap, subst, arith, length-append}
 use Rattle.std.proofs.Math.Nat.{le-div_iff_mul-le, mul-le-mul_left}
 use Rattle.std.proofs.lemmas.Bool.{cases_lt}
-use Rattle.rss_levels.specs.Entries.{Each, least, capacity}
+use Rattle.rss_base.specs.Nodes.{node_least, node_most}
+use Rattle.rss_levels.specs.Entries.{Each}
 use Rattle.rss_levels.specs.Rows.{Part, Row, Cells, Spell, IsStack, IsTree, items, names, numbers, pages, leaf_entry}
 use Rattle.rss_levels.specs.Spots.{HasFull, HasRoom}
 use Rattle.rss_levels.proofs.Lists.{each_left, each_right, each_weaker}
@@ -26,7 +27,7 @@ long_leaf [] = refl
 long_leaf (p ∷ pairs) = ap (λ (n : ℕ). suc n) (long_leaf pairs)
 
 -- and more, where one of them has no room
-row_full : (f width : ℕ) (row : Row) → f + f ≤ capacity width → Each (λ p. f ≤ length p.items) row → HasFull width row → f * (length row + 1) ≤ length (items row)
+row_full : (f width : ℕ) (row : Row) → f + f ≤ node_most width → Each (λ p. f ≤ length p.items) row → HasFull width row → f * (length row + 1) ≤ length (items row)
 row_full f width row twice full has =
     let parts = subst (Each (λ p. f ≤ length p.items)) has.is full in
     let left = row_many f has.before (each_left (λ p. f ≤ length p.items) has.before (has.here ∷ has.after) parts) in
@@ -46,12 +47,12 @@ step_up g r deep below n one two = omega (arith, one, two)
 fits_in : (g pages rows r n spare : ℕ) → g * (pages + rows) + (r + 1) ≤ n → n + 1 < g * (pages + (spare + 1)) + r → rows ≤ spare
 fits_in g pages rows r n spare low high = ⊎_elim (λ (lt : spare < rows). let more : g * (pages + (spare + 1)) ≤ g * (pages + rows) = mul-le-mul_left g (omega arith) in absurd (omega (arith, low, high, more))) (λ (le : rows ≤ spare). le) (cases_lt spare rows)
 
-module _ (spell : Spell) (cells : Cells) (width : ℕ) (pairs : List (List ℕ)) (g : ℕ) (least_is : least width ≡ g + 1) where
-  full_as : (row : Row) → Each (λ p. least width ≤ length p.items) row → Each (λ p. g + 1 ≤ length p.items) row
+module _ (spell : Spell) (cells : Cells) (width : ℕ) (pairs : List (List ℕ)) (g : ℕ) (least_is : node_least width ≡ g + 1) where
+  full_as : (row : Row) → Each (λ p. node_least width ≤ length p.items) row → Each (λ p. g + 1 ≤ length p.items) row
   full_as row full = subst (λ (f : ℕ). Each (λ p. f ≤ length p.items) row) least_is full
 
   -- rows of filled nodes
-  pub stack_pages : (row : Row) (lower : List Row) → Each (λ p. least width ≤ length p.items) row → IsStack spell cells width pairs (row ∷ lower) → g * length (pages (row ∷ lower)) + length row ≤ length pairs
+  pub stack_pages : (row : Row) (lower : List Row) → Each (λ p. node_least width ≤ length p.items) row → IsStack spell cells width pairs (row ∷ lower) → g * length (pages (row ∷ lower)) + length row ≤ length pairs
   stack_pages row [] full stack =
       let many = row_many (g + 1) row (full_as row full) in
       let all : length (items row) ≡ length pairs = ap length stack.1.pairs_are ∙ long_leaf pairs in
@@ -68,9 +69,9 @@ module _ (spell : Spell) (cells : Cells) (width : ℕ) (pairs : List (List ℕ))
   count_row : (row : Row) (rest : List ℕ) → length (numbers row ++ rest) ≡ length row + length rest
   count_row row rest = length-append (numbers row) rest ∙ ap (λ (n : ℕ). n + length rest) (long_numbers row)
 
-  module _ (twice : (g + 1) + (g + 1) ≤ capacity width) where
+  module _ (twice : (g + 1) + (g + 1) ≤ node_most width) where
     -- rows of filled nodes, in each of which one has no room
-    pub full_pages : (row : Row) (lower : List Row) → Each (λ p. least width ≤ length p.items) row → IsStack spell cells width pairs (row ∷ lower) → Each (HasFull width) (row ∷ lower) → g * (length (pages (row ∷ lower)) + length (row ∷ lower)) + (length row + 1) ≤ length pairs
+    pub full_pages : (row : Row) (lower : List Row) → Each (λ p. node_least width ≤ length p.items) row → IsStack spell cells width pairs (row ∷ lower) → Each (HasFull width) (row ∷ lower) → g * (length (pages (row ∷ lower)) + length (row ∷ lower)) + (length row + 1) ≤ length pairs
     full_pages row [] full stack all =
         let many = row_full (g + 1) width row twice (full_as row full) all.0 in
         let pairs_are : length (items row) ≡ length pairs = ap length stack.1.pairs_are ∙ long_leaf pairs in
@@ -88,7 +89,7 @@ module _ (spell : Spell) (cells : Cells) (width : ℕ) (pairs : List (List ℕ))
         omega (arith, many, below, deep, times)
 
     -- where so many pages more would be too many for one more pair, there is room
-    pub stack_room : (spare : ℕ) (row : Row) (lower : List Row) → Each (λ p. least width ≤ length p.items) row → IsStack spell cells width pairs (row ∷ lower) → length pairs + 1 < g * (length (pages (row ∷ lower)) + (spare + 1)) + length row → HasRoom width spare (row ∷ lower)
+    pub stack_room : (spare : ℕ) (row : Row) (lower : List Row) → Each (λ p. node_least width ≤ length p.items) row → IsStack spell cells width pairs (row ∷ lower) → length pairs + 1 < g * (length (pages (row ∷ lower)) + (spare + 1)) + length row → HasRoom width spare (row ∷ lower)
     stack_room spare row [] full stack much = (fits, tt)
       where
         fits : Each (HasFull width) (row ∷ []) → length (row ∷ []) ≤ spare
@@ -106,10 +107,10 @@ module _ (spell : Spell) (cells : Cells) (width : ℕ) (pairs : List (List ℕ))
             let times : g * (length (pages (row ∷ l ∷ lower)) + (spare + 1)) ≡ g * (length (pages (l ∷ lower)) + (spare + 1)) + g * length row = ap (λ (n : ℕ). g * (n + (spare + 1))) count ∙ omega arith in
             omega (arith, many, below, times, much)
 
-pub tree_pages : (spell : Spell) (cells : Cells) (width root levels : ℕ) (pairs : List (List ℕ)) (top : Part) (lower : List Row) → IsTree spell cells width root levels pairs top lower → 2 ≤ least width → length (pages ((top ∷ []) ∷ lower)) ≤ length pairs / (least width - 1) + 2
+pub tree_pages : (spell : Spell) (cells : Cells) (width root levels : ℕ) (pairs : List (List ℕ)) (top : Part) (lower : List Row) → IsTree spell cells width root levels pairs top lower → 2 ≤ node_least width → length (pages ((top ∷ []) ∷ lower)) ≤ length pairs / (node_least width - 1) + 2
 tree_pages spell cells width root levels pairs top [] tree some = omega arith
 tree_pages spell cells width root levels pairs top (l ∷ lower) tree some =
-    let g : ℕ = least width - 1 in
+    let g : ℕ = node_least width - 1 in
     let deep = stack_pages spell cells width pairs g (omega arith) l lower tree.stack.1.full tree.stack.2 in
     let few : length (pages (l ∷ lower)) * g ≤ length pairs = omega (arith, deep) in
     let low : length (pages (l ∷ lower)) ≤ length pairs / g = (le-div_iff_mul-le {k = g} {x = length (pages (l ∷ lower))} {y = length pairs} (omega arith)).1 few in
@@ -120,19 +121,19 @@ pub record TreeRoom (width spare : ℕ) (rows : List Row) : Type 0 where
   pub rows_room : HasRoom width spare rows
   pub root_room : Each (HasFull width) rows → length rows + 1 ≤ spare
 
-pub tree_room : (spell : Spell) (cells : Cells) (width root levels : ℕ) (pairs : List (List ℕ)) (top : Part) (lower : List Row) → IsTree spell cells width root levels pairs top lower → 2 ≤ least width → (spare : ℕ) → (length pairs + 1) / (least width - 1) + 2 ≤ spare + length (pages ((top ∷ []) ∷ lower)) → TreeRoom width spare ((top ∷ []) ∷ lower)
+pub tree_room : (spell : Spell) (cells : Cells) (width root levels : ℕ) (pairs : List (List ℕ)) (top : Part) (lower : List Row) → IsTree spell cells width root levels pairs top lower → 2 ≤ node_least width → (spare : ℕ) → (length pairs + 1) / (node_least width - 1) + 2 ≤ spare + length (pages ((top ∷ []) ∷ lower)) → TreeRoom width spare ((top ∷ []) ∷ lower)
 tree_room spell cells width root levels pairs top lower tree some spare room = record {
   rows_room = (λ all. omega (arith, root_room all), below lower tree.stack room);
   root_room = root_room;
 }
   where
     g : ℕ
-    g = least width - 1
+    g = node_least width - 1
 
-    least_is : least width ≡ g + 1
+    least_is : node_least width ≡ g + 1
     least_is = omega arith
 
-    twice : (g + 1) + (g + 1) ≤ capacity width
+    twice : (g + 1) + (g + 1) ≤ node_most width
     twice = omega arith
 
     -- one more page than the bound is too many
@@ -143,15 +144,15 @@ tree_room spell cells width root levels pairs top lower tree some spare room = r
     root_room all =
         let rows : ℕ = length ((top ∷ []) ∷ lower) in
         let count : ℕ = length (pages ((top ∷ []) ∷ lower)) in
-        let filled : Each (λ p. least width ≤ length p.items) (top ∷ []) = (only all.0, tt) in
+        let filled : Each (λ p. node_least width ≤ length p.items) (top ∷ []) = (only all.0, tt) in
         let much = full_pages spell cells width pairs g least_is twice (top ∷ []) lower filled tree.stack all in
         let within : count + rows ≤ (length pairs + 1) / g = (le-div_iff_mul-le {k = g} {x = count + rows} {y = length pairs + 1} (omega arith)).1 (omega (arith, much)) in
         omega (arith, within, room)
       where
-        only : HasFull width (top ∷ []) → least width ≤ length top.items
+        only : HasFull width (top ∷ []) → node_least width ≤ length top.items
         only has = at has.before has.is has.full
           where
-            at : (before : Row) → top ∷ [] ≡ before ++ has.here ∷ has.after → capacity width ≤ length has.here.items → least width ≤ length top.items
+            at : (before : Row) → top ∷ [] ≡ before ++ has.here ∷ has.after → node_most width ≤ length has.here.items → node_least width ≤ length top.items
             at [] is full = let same : top ≡ has.here = cc in let long : length top.items ≡ length has.here.items = ap (λ (p : Part). length p.items) same in omega (arith, long, full)
             at (b ∷ before) is full = let long : 1 ≡ suc (length before + suc (length has.after)) = ap length is ∙ ap (λ (n : ℕ). suc n) (length-append before (has.here ∷ has.after)) in absurd (omega (arith, long))
 
@@ -169,11 +170,11 @@ abbrev pub reach : ℕ → ℕ → ℕ
 reach zero m = m
 reach (suc levels) m = reach levels (15 * m)
 
-module _ (spell : Spell) (cells : Cells) (width : ℕ) (pairs : List (List ℕ)) (many : 15 ≤ least width) where
-  wide_row : (m : ℕ) (row : Row) → Each (λ p. least width ≤ length p.items) row → m ≤ length row → 15 * m ≤ length (items row)
-  wide_row m row full low = let all = row_many 15 row (each_weaker (λ p. least width ≤ length p.items) (λ p. 15 ≤ length p.items) row (λ p long. omega (arith, long, many)) full) in omega (arith, all, low)
+module _ (spell : Spell) (cells : Cells) (width : ℕ) (pairs : List (List ℕ)) (many : 15 ≤ node_least width) where
+  wide_row : (m : ℕ) (row : Row) → Each (λ p. node_least width ≤ length p.items) row → m ≤ length row → 15 * m ≤ length (items row)
+  wide_row m row full low = let all = row_many 15 row (each_weaker (λ p. node_least width ≤ length p.items) (λ p. 15 ≤ length p.items) row (λ p long. omega (arith, long, many)) full) in omega (arith, all, low)
 
-  stack_reach : (k m : ℕ) (row : Row) (lower : List Row) → k ≤ length (row ∷ lower) → m ≤ length row → Each (λ p. least width ≤ length p.items) row → IsStack spell cells width pairs (row ∷ lower) → reach k m ≤ length pairs
+  stack_reach : (k m : ℕ) (row : Row) (lower : List Row) → k ≤ length (row ∷ lower) → m ≤ length row → Each (λ p. node_least width ≤ length p.items) row → IsStack spell cells width pairs (row ∷ lower) → reach k m ≤ length pairs
   stack_reach zero m row [] deep low full stack =
       let wide = wide_row m row full low in
       omega (arith, wide, ap length stack.1.pairs_are, long_leaf pairs)
@@ -189,7 +190,7 @@ module _ (spell : Spell) (cells : Cells) (width : ℕ) (pairs : List (List ℕ))
       stack_reach k (15 * m) l lower (omega (arith, deep)) (omega (arith, wide, ap length stack.1.names_are, long_names l)) stack.1.full stack.2
 
 -- a tree of few pairs has five levels at most
-pub tree_levels : (spell : Spell) (cells : Cells) (width root levels : ℕ) (pairs : List (List ℕ)) (top : Part) (lower : List Row) → IsTree spell cells width root levels pairs top lower → 15 ≤ least width → length pairs < 1518750 → levels ≤ 5
+pub tree_levels : (spell : Spell) (cells : Cells) (width root levels : ℕ) (pairs : List (List ℕ)) (top : Part) (lower : List Row) → IsTree spell cells width root levels pairs top lower → 15 ≤ node_least width → length pairs < 1518750 → levels ≤ 5
 tree_levels spell cells width root levels pairs top [] tree many few = omega (arith, tree.high)
 tree_levels spell cells width root levels pairs top (l ∷ lower) tree many few = ⊎_elim
     (λ (deep : 5 < levels).

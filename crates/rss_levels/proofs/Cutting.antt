@@ -1,7 +1,9 @@
 -- A pair is taken out of a whole tree.
 use Rattle.std.proofs.Common.{◌<◌, ◌≤◌, ◌≡◌, ◌≢◌, ⊎_elim, ℕ, suc, ◌+◌, ◌-◌, List, [], ◌∷◌, length, refl, sym, ◌∙◌, ap, subst, arith}
 use Rattle.std.proofs.lemmas.List.{append-nil}
-use Rattle.rss_levels.specs.Entries.{Entry, Each, IsIn, least}
+use Rattle.rss_base.specs.Entries.{Entry}
+use Rattle.rss_base.specs.Nodes.{node_least}
+use Rattle.rss_levels.specs.Entries.{Each, IsIn}
 use Rattle.rss_levels.specs.Rows.{Part, Row, Cells, Spell, IsStack, IsTree, AreDistinct, Begins, name, names, pages}
 use Rattle.rss_levels.specs.Spots.{Keeps, Spot}
 use Rattle.rss_levels.specs.Removes.{Removes, without_pair}
@@ -30,7 +32,7 @@ names_one [] es is one = absurd (omega (arith, one, ap length is))
 names_one (p ∷ []) es is one = record { entry = name p; part = p; es_is = is; row_is = refl; name_is = refl }
 names_one (p ∷ q ∷ row) es is one = let long : length es ≡ suc (suc (length (names row))) = ap length is in absurd (omega (arith, one, long))
 
-module _ (spell : Spell) (old : Cells) (width root levels : ℕ) (target : List ℕ) (pairs : List (List ℕ)) (top : Part) (lower : List Row) (tree : IsTree spell old width root levels pairs top lower) (long : length target ≡ width + 6) (many : 2 ≤ least width) where
+module _ (spell : Spell) (old : Cells) (width root levels : ℕ) (target : List ℕ) (pairs : List (List ℕ)) (top : Part) (lower : List Row) (tree : IsTree spell old width root levels pairs top lower) (long : length target ≡ width + 6) (many : 2 ≤ node_least width) where
   abbrev spot : Spot spell old width (levels - 1) root target pairs
   spot = root_spot spell old width root levels target pairs top lower tree long
 
@@ -65,7 +67,7 @@ module _ (spell : Spell) (old : Cells) (width root levels : ℕ) (target : List 
               at_root = ap (λ (e : Entry). e.child) only.name_is;
               low = ap (λ (e : Entry). e.pair) only.name_is ∙ begins ∙ rem.head_low ∙ tree.low;
               high = omega (arith, tree.high, height, rem.same_height);
-              branches = λ some. let full = (subst (Each (λ p. least width ≤ length p.items)) only.row_is stack.1.full).0 in omega (arith, full, many);
+              branches = λ some. let full = (subst (Each (λ p. node_least width ≤ length p.items)) only.row_is stack.1.full).0 in omega (arith, full, many);
               distinct = subst (λ (l : Row). AreDistinct (l ∷ rs)) only.row_is distinct.1;
             };
           }

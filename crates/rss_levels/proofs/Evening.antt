@@ -2,8 +2,10 @@
 use Rattle.std.proofs.Common.{◌≤◌, ◌≡◌, ◌≢◌, ◌⊎◌, inl, inr, ⊎_elim, ℕ, suc, List, [], ◌∷◌, ◌++◌, length, refl, sym, ◌∙◌, ap, subst, arith, append_assoc}
 use Rattle.std.proofs.lemmas.Grind.{flat_map-append}
 use Rattle.std.proofs.lemmas.List.{map-append}
-use Rattle.rss_levels.specs.Entries.{Entry, Each, Pairwise, IsIn, capacity}
-use Rattle.rss_levels.specs.Rows.{Part, Row, Cells, Spell, IsRow, IsStack, AreDistinct, HasHead, Begins, IsBefore, marks, name, names, items, numbers, pages, first, no_page}
+use Rattle.rss_base.specs.Entries.{Entry, no_page}
+use Rattle.rss_base.specs.Nodes.{node_most}
+use Rattle.rss_levels.specs.Entries.{Each, Pairwise, IsIn}
+use Rattle.rss_levels.specs.Rows.{Part, Row, Cells, Spell, IsRow, IsStack, AreDistinct, HasHead, Begins, IsBefore, marks, name, names, items, numbers, pages, first}
 use Rattle.rss_levels.specs.Removes.{Evens}
 use Rattle.rss_levels.proofs.Lists.{each_append, each_left, each_right, each_weaker, each_two, each_unmap, pairwise_right, pairwise_cross, pairwise_cut}
 use Rattle.rss_levels.proofs.Held.{held_replaced}
@@ -84,13 +86,13 @@ module _ (spell : Spell) (old new : Cells) (width : ℕ) (pairs : List (List ℕ
     even_row distinct row =
         let off = even_off distinct in
         let off_after = each_left (λ n. IsIn (left.number ∷ right.number ∷ []) n → ⊥) (numbers after) (pages rest) off.1 in
-        let few = each_was (λ p. length p.items ≤ capacity width) row.few in
+        let few = each_was (λ p. length p.items ≤ node_most width) row.few in
         record {
           held = held_replaced spell width (length rest) old new (left.number ∷ right.number ∷ []) before (left ∷ right ∷ []) (head ∷ extra) after no_page ev.keeps
               (each_unmap (λ n. IsIn (left.number ∷ right.number ∷ []) n → ⊥) (λ (p : Part). p.number) before off.0)
               (each_unmap (λ n. IsIn (left.number ∷ right.number ∷ []) n → ⊥) (λ (p : Part). p.number) after off_after)
               (sym ev.number_is) row.held ev.held;
-          few = each_now (λ p. length p.items ≤ capacity width) few.0 few.1 ev.few;
+          few = each_now (λ p. length p.items ≤ node_most width) few.0 few.1 ev.few;
         }
 
     even_rises : Pairwise IsBefore (marks was) → Pairwise IsBefore (marks now)

@@ -1,11 +1,13 @@
 -- A step down from an inner node, and what it does to it.
 use Rattle.std.proofs.Common.{◌<◌, ◌≤◌, ◌≡◌, ◌⊎◌, inl, inr, ⊎_elim, ℕ, suc, zero, ◌-◌, List, [], ◌∷◌, ◌++◌, length, take, drop, refl, sym, ◌∙◌, ap, subst, arith}
-use Rattle.rss_levels.specs.Entries.{Entry, Each, IsLess}
-use Rattle.rss_levels.specs.Rows.{Part, Row, Cells, Spell, HoldsAt, HasHead, Begins, names, first, link, no_page, stored}
-use Rattle.rss_levels.specs.Spots.{Spot, Replaces, Inserts, HasFull, HasRoom, rows_at}
+use Rattle.rss_base.specs.Entries.{Entry, IsLess, no_page}
+use Rattle.rss_levels.specs.Entries.{Each}
+use Rattle.rss_levels.specs.Rows.{Part, Row, Cells, Spell, HoldsAt, HasHead, Begins, names, first, link, stored}
+use Rattle.rss_levels.proofs.Replacing.{Replaces}
+use Rattle.rss_levels.specs.Spots.{Spot, Inserts, HasFull, HasRoom, rows_at}
 use Rattle.rss_levels.proofs.Lists.{each_right, each_weaker}
 use Rattle.rss_levels.proofs.Order.{not_not_less}
-use Rattle.rss_levels.specs.Entries.{least, capacity}
+use Rattle.rss_base.specs.Nodes.{node_least, node_most}
 use Rattle.rss_levels.proofs.Names.{child_split}
 use Rattle.rss_levels.proofs.Inserting.{stack_is, below, row_after, keeps_lower, inner_inserts, has_full}
 use Rattle.rss_levels.proofs.Spotted.{at_place, first_drop, split_place, stored_pair, begins_place, here_of}
@@ -90,15 +92,15 @@ module _ (spell : Spell) (old : Cells) (width level number : ℕ) (target : List
   room_below spare room = subst (HasRoom width spare) lower_is room.1
 
   -- where a node below was split and this one has no room, all rows have such nodes
-  pub all_full : (mid : Cells) (more : List Entry) (ins : Inserts child_at mid more) → 0 < length ins.extra → capacity width ≤ length spot.here.items → Each (HasFull width) (rows_at spot)
+  pub all_full : (mid : Cells) (more : List Entry) (ins : Inserts child_at mid more) → 0 < length ins.extra → node_most width ≤ length spot.here.items → Each (HasFull width) (rows_at spot)
   all_full mid more ins split full =
       let deeper : Each (HasFull width) spot.lower = subst (Each (HasFull width)) (sym lower_is) (ins.full_rows split) in
       (has_full width spot.before spot.here spot.after full, deeper)
 
   -- the nodes to the right of the child have entries
-  pub child_filled : 0 < least width → Each (λ p. 0 < length p.items) child_at.after
+  pub child_filled : 0 < node_least width → Each (λ p. 0 < length p.items) child_at.after
   child_filled few =
       let stack = stack_is spell old width level number target pairs spot cons.row cons.rest cons.is before_at at_entry behind_at has_at in
       let split = child_split spell old width target pairs spot.before spot.here spot.after cons.row cons.rest stack before_at at_entry behind_at has_at in
-      let full : Each (λ p. least width ≤ length p.items) (split.before ++ split.here ∷ split.after) = subst (Each (λ p. least width ≤ length p.items)) split.is stack.1.full in
-      each_weaker (λ p. least width ≤ length p.items) (λ p. 0 < length p.items) split.after (λ p long. omega (arith, few, long)) (each_right (λ p. least width ≤ length p.items) split.before (split.here ∷ split.after) full).1
+      let full : Each (λ p. node_least width ≤ length p.items) (split.before ++ split.here ∷ split.after) = subst (Each (λ p. node_least width ≤ length p.items)) split.is stack.1.full in
+      each_weaker (λ p. node_least width ≤ length p.items) (λ p. 0 < length p.items) split.after (λ p long. omega (arith, few, long)) (each_right (λ p. node_least width ≤ length p.items) split.before (split.here ∷ split.after) full).1

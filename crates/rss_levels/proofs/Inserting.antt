@@ -6,11 +6,15 @@ use Rattle.std.specs.declared.cmp.Ordering.TheVariants.{Less, Equal, Greater}
 use Rattle.std.specs.Cmp.Lexicographic.{slice_cmp}
 use Rattle.std.proofs.lemmas.Grind.{flat_map-append}
 use Rattle.std.proofs.lemmas.List.{map-append, append-nil, length-map}
-use Rattle.rss_levels.specs.Entries.{Entry, Each, Pairwise, IsIn, IsLess, least, capacity}
-use Rattle.rss_levels.specs.Rows.{Part, Row, Cells, Spell, HoldsRow, IsStack, AreDistinct, HasHead, Begins, IsBefore, fence, item, marks, marks_of, name, names, items, numbers, pages, first, no_page, leaf_entry}
-use Rattle.rss_levels.specs.Spots.{Keeps, IsOwn, LosesNone, HasFull, IsMade, AreMade, Spot, rows_at, Replaces, Inserts, with_pair}
+use Rattle.rss_base.specs.Entries.{Entry, IsLess, no_page}
+use Rattle.rss_base.specs.Nodes.{node_least, node_most}
+use Rattle.rss_levels.specs.Entries.{Each, Pairwise, IsIn}
+use Rattle.rss_levels.specs.Rows.{Part, Row, Cells, Spell, HoldsRow, IsStack, AreDistinct, HasHead, Begins, IsBefore, fence, item, marks, marks_of, name, names, items, numbers, pages, first, leaf_entry}
+use Rattle.rss_levels.proofs.Replacing.{Replaces}
+use Rattle.rss_levels.specs.Spots.{Keeps, IsOwn, LosesNone, HasFull, IsMade, AreMade, Spot, rows_at, Inserts, with_pair}
 use Rattle.rss_levels.proofs.Lists.{each_append, each_left, each_right, each_weaker, each_map, each_unmap, pairwise_left, pairwise_right, pairwise_cross, pairwise_put}
-use Rattle.rss_levels.proofs.Order.{less_asym, less_trans, less_fence, less_item, before_trans, before_less}
+use Rattle.rss_base.proofs.Entries.{less_asym, less_trans}
+use Rattle.rss_levels.proofs.Order.{less_fence, less_item, before_trans, before_less}
 use Rattle.rss_levels.proofs.Held.{held_replaced, held_kept}
 use Rattle.rss_levels.proofs.Made.{IsGood, made_parts, made_names, made_between, made_here}
 use Rattle.rss_levels.proofs.Names.{child_split, child_spot}
@@ -72,7 +76,7 @@ row_loses old new before here head extra after step =
     (loses_between (numbers before) (here.number ∷ []) (numbers (head ∷ extra)) (numbers after) old new step))
 
 -- a node without room that became two
-pub has_full : (width : ℕ) (before : Row) (here : Part) (after : Row) → capacity width ≤ length here.items → HasFull width (before ++ here ∷ after)
+pub has_full : (width : ℕ) (before : Row) (here : Part) (after : Row) → node_most width ≤ length here.items → HasFull width (before ++ here ∷ after)
 has_full width before here after full = record { before = before; here = here; after = after; is = refl; full = full }
 
 -- the parts of a row at which something holds
@@ -207,7 +211,7 @@ module _ (spell : Spell) (old new : Cells) (width level number : ℕ) (target : 
         stack_now = (
           record {
             held = held_replaced spell width 0 old new (here.number ∷ []) before (here ∷ []) (head ∷ extra) after no_page rep.keeps off.0 off.1 (sym rep.number_is) stack.0.held rep.held;
-            few = each_row (λ p. length p.items ≤ capacity width) before here head extra after stack.0.few rep.few;
+            few = each_row (λ p. length p.items ≤ node_most width) before here head extra after stack.0.few rep.few;
           },
           record { pairs_are = new_pairs; rises = rises_now },
         );
@@ -313,8 +317,8 @@ module _ (spell : Spell) (old : Cells) (width level number : ℕ) (target : List
       ∙ sym (append_assoc (items before) xs (e ∷ ((more ++ ys) ++ items after)))
       ∙ ap (λ (l : List Entry). (items before ++ xs) ++ (e ∷ l)) (append_assoc more ys (items after))
       ∙ sym lower_names in
-      let full_old : Each (λ p. least width ≤ length p.items) (cut.before ++ cut.here ∷ cut.after) = subst (Each (λ p. least width ≤ length p.items)) cut.is stack_is.1.full in
-      let full_here = each_at (λ p. least width ≤ length p.items) cut.before cut.here cut.after full_old in
+      let full_old : Each (λ p. node_least width ≤ length p.items) (cut.before ++ cut.here ∷ cut.after) = subst (Each (λ p. node_least width ≤ length p.items)) cut.is stack_is.1.full in
+      let full_here = each_at (λ p. node_least width ≤ length p.items) cut.before cut.here cut.after full_old in
       let own_all : Each (IsOwn (pages (rows_at spot)) old) (nrow ++ lower_now) =
       each_append (IsOwn (pages (rows_at spot)) old) nrow lower_now
       (each_weaker (IsIn nrow) (IsOwn (pages (rows_at spot)) old) nrow (λ n there. inl (in_left nrow (pages spot.lower) n there)) (each_in nrow))
@@ -332,12 +336,12 @@ module _ (spell : Spell) (old : Cells) (width level number : ℕ) (target : List
         stack_now = (
           record {
             held = subst (λ (n : ℕ). HoldsRow spell new width (suc n) now no_page) height_now row_now;
-            few = each_row (λ p. length p.items ≤ capacity width) before here head extra after stack_is.0.few rep.few;
+            few = each_row (λ p. length p.items ≤ node_most width) before here head extra after stack_is.0.few rep.few;
           },
           record {
             heads = each_row HasHead before here head extra after stack_is.1.heads (head_now, rep.heads);
             names_are = names_now;
-            full = each_row (λ p. least width ≤ length p.items) cut.before cut.here ins.head ins.extra cut.after full_old (ins.full (least width) (omega arith) (inl full_here));
+            full = each_row (λ p. node_least width ≤ length p.items) cut.before cut.here ins.head ins.extra cut.after full_old (ins.full (node_least width) (omega arith) (inl full_here));
           },
           stack_lower,
         );
@@ -349,7 +353,7 @@ module _ (spell : Spell) (old : Cells) (width level number : ℕ) (target : List
             subst (λ (l : List Row). LosesNone (nrow ++ pages l) (numbers now ++ lower_now) old new) (sym is)
             (loses_both lower lower_now nrow (numbers now) old mid new below_step (row_loses mid new before here head extra after rep.loses_none));
         full_rows = λ more_than.
-            let few_here : length here.items ≤ capacity width = each_at (λ p. length p.items ≤ capacity width) before here after stack_is.0.few in
+            let few_here : length here.items ≤ node_most width = each_at (λ p. length p.items ≤ node_most width) before here after stack_is.0.few in
             let mine : length here.items ≡ length xs + suc (length ys) = ap length has ∙ length-append xs (e ∷ ys) in
             let all : length (xs ++ e ∷ (more ++ ys)) ≡ length xs + suc (length more + length ys) = length-append xs (e ∷ (more ++ ys)) ∙ ap (λ (n : ℕ). length xs + suc n) (length-append more ys) in
             let named : length more ≡ length ins.extra = sym (ap (λ (l : List Entry). length l) ins.names_are) ∙ length-map ins.extra name in

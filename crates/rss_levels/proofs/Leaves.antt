@@ -2,7 +2,8 @@
 use Rattle.std.proofs.Common.{◌≡◌, ℕ, List, [], ◌∷◌, ◌++◌, map, refl, sym, ◌∙◌, ap, subst, append_assoc}
 use Rattle.std.proofs.lemmas.Grind.{flat_map-append}
 use Rattle.std.proofs.lemmas.List.{map-append}
-use Rattle.rss_levels.specs.Entries.{Entry, IsLess, Each, Pairwise}
+use Rattle.rss_base.specs.Entries.{Entry, IsLess}
+use Rattle.rss_levels.specs.Entries.{Each, Pairwise}
 use Rattle.rss_levels.specs.Rows.{Part, Row, Mark, IsBefore, fence, item, marks, marks_of}
 use Rattle.rss_levels.proofs.Lists.{each_append, each_right, each_weaker, each_map, pairwise_left, pairwise_right, pairwise_cross, pairwise_before, pairwise_put, pairwise_cut}
 use Rattle.rss_levels.proofs.Order.{before_trans, before_less, fence_from, fence_same, less_item}

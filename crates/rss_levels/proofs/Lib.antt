@@ -6,6 +6,7 @@ pub mod Names
 pub mod Leaves
 pub mod Pages
 pub mod Made
+pub mod Replacing
 pub mod Inserting
 pub mod Spotted
 pub mod Inner

@@ -1,6 +1,7 @@
 -- A test that the bounds and the pairs of rows pass.
 use Rattle.std.proofs.Common.{◌≡◌, ℕ, Bool, true, List, [], ◌∷◌, ◌++◌, sym, ◌∙◌, ap, subst}
-use Rattle.rss_levels.specs.Entries.{Entry, Each}
+use Rattle.rss_base.specs.Entries.{Entry}
+use Rattle.rss_levels.specs.Entries.{Each}
 use Rattle.rss_levels.specs.Rows.{Part, Row, HasHead, Begins, names, items}
 use Rattle.rss_levels.specs.Spots.{IsMade}
 use Rattle.rss_levels.proofs.Lists.{each_append, each_left, each_right}

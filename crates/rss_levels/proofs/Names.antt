@@ -1,11 +1,12 @@
 -- Where a node of a row stands, by an entry that names it.
 use Rattle.std.proofs.Common.{◌≡◌, ◌≢◌, ℕ, List, [], ◌∷◌, ◌++◌, length, refl, sym, ◌∙◌, ap, subst, arith, length-append, append_assoc}
 use Rattle.std.proofs.lemmas.Grind.{flat_map-append}
-use Rattle.rss_levels.specs.Entries.{Entry, IsLess, Each, Pairwise}
+use Rattle.rss_base.specs.Entries.{Entry, IsLess}
+use Rattle.rss_levels.specs.Entries.{Each, Pairwise}
 use Rattle.rss_levels.specs.Rows.{Part, Row, Cells, Spell, name, names, items, HasHead, Begins, IsStack, AreDistinct, pages, numbers}
 use Rattle.rss_levels.specs.Spots.{Spot}
 use Rattle.rss_levels.proofs.Lists.{each_right, each_weaker, pairwise_right}
-use Rattle.rss_levels.proofs.Order.{less_trans}
+use Rattle.rss_base.proofs.Entries.{less_trans}
 use Rattle.rss_levels.proofs.Rising.{IsLesser, items_rise}
 
 pub record SplitsAt (row : Row) (xs : List Entry) (e : Entry) (ys : List Entry) : Type 0 where

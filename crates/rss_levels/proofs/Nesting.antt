@@ -1,8 +1,10 @@
 -- The rows of a tree as nodes with those under them.
 use Rattle.std.proofs.Common.{◌≡◌, ◌≢◌, ◌⊎◌, inl, inr, ⊎_elim, ℕ, suc, ◌≤◌, List, [], ◌∷◌, ◌++◌, length, refl, sym, ◌∙◌, ap, subst, append_assoc}
 use Rattle.std.proofs.lemmas.List.{append-nil}
-use Rattle.rss_levels.specs.Entries.{Entry, Each, Pairwise, IsIn, least}
-use Rattle.rss_levels.specs.Rows.{Part, Row, Cells, Spell, HoldsAt, HoldsRow, HasHead, stored, IsStack, IsLeaves, first, name, names, items, numbers, pages, no_page}
+use Rattle.rss_base.specs.Entries.{Entry, no_page}
+use Rattle.rss_base.specs.Nodes.{node_least}
+use Rattle.rss_levels.specs.Entries.{Each, Pairwise, IsIn}
+use Rattle.rss_levels.specs.Rows.{Part, Row, Cells, Spell, HoldsAt, HoldsRow, HasHead, stored, IsStack, IsLeaves, first, name, names, items, numbers, pages}
 use Rattle.rss_levels.specs.Spots.{Keeps}
 use Rattle.rss_levels.specs.Nested.{IsUnder, AreUnder, AreSameNumbers, leaf_under, inner_under, none_under, more_under}
 use Rattle.rss_levels.proofs.Lists.{each_append, each_left, each_right, each_weaker, pairwise_append, pairwise_left, pairwise_right, pairwise_cross}
@@ -105,15 +107,15 @@ module _ (spell : Spell) (cells : Cells) (width : ℕ) where
     pub under : AreUnder spell cells width level row ns leaves end
     pub same : AreSameNumbers ns all
 
-  group : (level : ℕ) (row lower : Row) (ns : List ℕ) (leaves : Row) (end next : ℕ) → HoldsRow spell cells width (suc level) row next → Each HasHead row → items row ≡ names lower → Each (λ p. least width ≤ length p.items) lower → AreUnder spell cells width level lower ns leaves end → RowUnder (suc level) row leaves end (numbers row ++ ns)
+  group : (level : ℕ) (row lower : Row) (ns : List ℕ) (leaves : Row) (end next : ℕ) → HoldsRow spell cells width (suc level) row next → Each HasHead row → items row ≡ names lower → Each (λ p. node_least width ≤ length p.items) lower → AreUnder spell cells width level lower ns leaves end → RowUnder (suc level) row leaves end (numbers row ++ ns)
   group level [] [] _ _ end next held heads are full none_under = record { ns = []; under = none_under; same = record { into = λ n is. is; back = λ n is. is; distinct = λ all. all } }
   group level [] (q ∷ lower) ns leaves end next held heads are full under = absurd (cc)
   group level (p ∷ row) lower ns leaves end next held heads are full under =
       let cut = split_names p.items (items row) lower (sym are) in
       let parts = split_under level cut.one cut.two ns leaves end (subst (λ (r : Row). AreUnder spell cells width level r ns leaves end) cut.is under) in
-      let filled = subst (Each (λ q. least width ≤ length q.items)) cut.is full in
-      let rest = group level row cut.two parts.ns_two parts.leaves_two end next held.1 heads.1 (sym cut.two_is) (each_right (λ q. least width ≤ length q.items) cut.one cut.two filled) parts.under_two in
-      let here = inner_under held.0 heads.0 (sym cut.one_is) (each_left (λ q. least width ≤ length q.items) cut.one cut.two filled) parts.under_one in
+      let filled = subst (Each (λ q. node_least width ≤ length q.items)) cut.is full in
+      let rest = group level row cut.two parts.ns_two parts.leaves_two end next held.1 heads.1 (sym cut.two_is) (each_right (λ q. node_least width ≤ length q.items) cut.one cut.two filled) parts.under_two in
+      let here = inner_under held.0 heads.0 (sym cut.one_is) (each_left (λ q. node_least width ≤ length q.items) cut.one cut.two filled) parts.under_one in
       let same = same_nested p.number (numbers row) parts.ns_one parts.ns_two rest.ns rest.same in
       record {
         ns = (p.number ∷ parts.ns_one) ++ rest.ns;

@@ -1,7 +1,8 @@
 -- Pages spell one tree at most.
 use Rattle.std.proofs.Common.{◌<◌, ◌≡◌, ℕ, suc, zero, List, [], ◌∷◌, length, map, refl, sym, ◌∙◌, ap, subst, arith, Some}
-use Rattle.rss_levels.specs.Entries.{Entry, Each}
-use Rattle.rss_levels.specs.Rows.{Part, Row, Cells, Spell, HoldsAt, HoldsRow, IsStack, IsTree, HasHead, Begins, items, names, link, no_page, stored, blanked, leaf_entry}
+use Rattle.rss_base.specs.Entries.{Entry, no_page}
+use Rattle.rss_levels.specs.Entries.{Each}
+use Rattle.rss_levels.specs.Rows.{Part, Row, Cells, Spell, HoldsAt, HoldsRow, IsStack, IsTree, HasHead, Begins, items, names, link, stored, blanked, leaf_entry}
 
 pub record AreSame (rows others : List Row) (pairs more : List (List ℕ)) : Type 0 where
   pub rows_are : rows ≡ others

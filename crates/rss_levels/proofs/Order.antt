@@ -1,13 +1,14 @@
 -- The order of pairs and of marks.
 use Rattle.std.specs.FinMap.{slice_cmp-IsAntisymmetric, nat_cmp-IsAntisymmetric}
-use Rattle.std.proofs.Common.{◌≡◌, ℕ, suc, zero, List, [], ◌∷◌, length, replicate, arith, ap, sym, ◌∙◌, refl}
+use Rattle.std.proofs.Common.{◌≡◌, ℕ, suc, zero, List, [], ◌∷◌, length, replicate, arith, ap, ◌∙◌, refl}
 use Rattle.std.specs.Ordering.{nat_cmp, ordering_then, ordering_reverse}
 use Rattle.std.specs.Cmp.{IsTotalOrder, nat_cmp_is}
 use Rattle.std.specs.Cmp.Lexicographic.{slice_cmp}
 use Rattle.std.specs.declared.cmp.Ordering.{Ordering}
 use Rattle.std.specs.declared.cmp.Ordering.TheVariants.{Less, Equal, Greater}
 use Rattle.std.proofs.lemmas.Cmp.{on_total, then_total, nat_cmp_total, nat_list_cmp_total, tied_itself}
-use Rattle.rss_levels.specs.Entries.{Entry, IsLess}
+use Rattle.rss_base.specs.Entries.{Entry, IsLess}
+use Rattle.rss_base.proofs.Entries.{greater_less}
 use Rattle.rss_levels.specs.Rows.{Mark, mark_cmp, IsBefore, fence, item}
 
 mark_total : IsTotalOrder mark_cmp
@@ -15,12 +16,6 @@ mark_total = then_total (on_total (λ (m : Mark). m.pair) nat_list_cmp_total) (o
 
 pub before_trans : {a b c : Mark} → IsBefore a b → IsBefore b c → IsBefore a c
 before_trans {a = a} {b = b} {c = c} one two = record { is = mark_total.trans a b c one.is two.is }
-
-pub less_trans : {a b c : List ℕ} → IsLess a b → IsLess b c → IsLess a c
-less_trans {a = a} {b = b} {c = c} one two = record { is = nat_list_cmp_total.trans a b c one.is two.is }
-
-pub less_never : {a : List ℕ} → IsLess a a → ⊥
-less_never {a = a} one = let same : slice_cmp nat_cmp a a ≡ Equal = tied_itself nat_list_cmp_total a in let never : Less ≡ Equal = sym one.is ∙ same in cc
 
 -- a mark is before another where its pair is less, whatever their ranks
 pub before_less : {a b : Mark} → IsLess a.pair b.pair → IsBefore a b
@@ -53,15 +48,6 @@ from_cases o Greater is never = rw is refl
 
 pub fence_from : (low : List ℕ) (e : Entry) → (IsLess e.pair low → ⊥) → IsBefore (fence low) (item e)
 fence_from low e never = record { is = from_cases (slice_cmp nat_cmp low e.pair) (slice_cmp nat_cmp e.pair low) (nat_list_cmp_total.antisymm low e.pair) (λ is. never (record { is = is })) }
-
-pub less_asym : {a b : List ℕ} → IsLess a b → IsLess b a → ⊥
-less_asym one two = less_never (less_trans one two)
-
-pub equal_never : (a b : List ℕ) → slice_cmp nat_cmp a b ≡ Equal → IsLess b a → ⊥
-equal_never a b same less = let back : slice_cmp nat_cmp a b ≡ Greater = nat_list_cmp_total.antisymm a b ∙ ap ordering_reverse less.is in let never : Equal ≡ Greater = sym same ∙ back in cc
-
-pub greater_less : (a b : List ℕ) → slice_cmp nat_cmp a b ≡ Greater → IsLess b a
-greater_less a b is = record { is = nat_list_cmp_total.antisymm b a ∙ ap ordering_reverse is }
 
 -- ---- deciding
 

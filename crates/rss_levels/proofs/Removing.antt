@@ -10,12 +10,15 @@ use Rattle.std.specs.Cmp.Lexicographic.{slice_cmp}
 use Rattle.std.proofs.lemmas.Cmp.{nat_list_cmp_total, tied_itself}
 use Rattle.std.proofs.lemmas.Grind.{flat_map-append}
 use Rattle.std.proofs.lemmas.List.{map-append, length-map}
-use Rattle.rss_levels.specs.Entries.{Entry, Each, Pairwise, IsIn, IsLess, least, capacity}
-use Rattle.rss_levels.specs.Rows.{Part, Row, Cells, Spell, HoldsAt, HoldsRow, IsStack, AreDistinct, HasHead, Begins, IsBefore, fence, item, marks, marks_of, name, names, items, numbers, pages, first, no_page, leaf_entry, stored}
+use Rattle.rss_base.specs.Entries.{Entry, IsLess, no_page}
+use Rattle.rss_base.specs.Nodes.{node_least, node_most}
+use Rattle.rss_levels.specs.Entries.{Each, Pairwise, IsIn}
+use Rattle.rss_levels.specs.Rows.{Part, Row, Cells, Spell, HoldsAt, HoldsRow, IsStack, AreDistinct, HasHead, Begins, IsBefore, fence, item, marks, marks_of, name, names, items, numbers, pages, first, leaf_entry, stored}
 use Rattle.rss_levels.specs.Spots.{Keeps, IsOwn, LosesNone, IsMade, AreMade, Spot, rows_at}
 use Rattle.rss_levels.specs.Removes.{without_pair, Removes, Neighbours, Evens, Lowered, Filled}
 use Rattle.rss_levels.proofs.Lists.{each_append, each_left, each_right, each_weaker, each_unmap, pairwise_left, pairwise_right, pairwise_cross}
-use Rattle.rss_levels.proofs.Order.{less_never, less_fence, less_item, before_trans, before_less}
+use Rattle.rss_base.proofs.Entries.{less_never}
+use Rattle.rss_levels.proofs.Order.{less_fence, less_item, before_trans, before_less}
 use Rattle.rss_levels.proofs.Held.{held_replaced, held_kept, held_left, held_right}
 use Rattle.rss_levels.proofs.Names.{child_split, items_around}
 use Rattle.rss_levels.proofs.Made.{IsGood, made_parts, made_names, made_between, made_here}
@@ -120,7 +123,7 @@ module _ (spell : Spell) (old : Cells) (width level number : ℕ) (target : List
   own_one n there = in_left (numbers (spot.before ++ spot.here ∷ spot.after)) (pages spot.lower) n (subst (λ (l : List ℕ). IsIn l n) (sym (numbers_around spot.before spot.here spot.after)) (in_right (numbers spot.before) (spot.here.number ∷ numbers spot.after) n (⊎_elim (λ (same : spot.here.number ≡ n). inl same) (λ (none : ⊥). absurd none) there)))
 
   pub leaf_removes : (new : Cells) → spot.lower ≡ [] → (xs : List Entry) (e : Entry) (ys : List Entry) → spot.here.items ≡ xs ++ e ∷ ys → e.pair ≡ target → Each (λ d. IsLess d.pair target) xs
-      → HoldsAt spell new 0 spot.here.number (first spot.after no_page) (xs ++ ys) → Keeps (spot.here.number ∷ []) old new → LosesNone (spot.here.number ∷ []) (spot.here.number ∷ []) old new → length (xs ++ ys) ≤ capacity width → Removes spot new (length (xs ++ ys))
+      → HoldsAt spell new 0 spot.here.number (first spot.after no_page) (xs ++ ys) → Keeps (spot.here.number ∷ []) old new → LosesNone (spot.here.number ∷ []) (spot.here.number ∷ []) old new → length (xs ++ ys) ≤ node_most width → Removes spot new (length (xs ++ ys))
   leaf_removes new is xs e ys has same below held keeps loses room =
       let before : Row = spot.before in
       let here : Part = spot.here in
@@ -151,7 +154,7 @@ module _ (spell : Spell) (old : Cells) (width level number : ℕ) (target : List
         stack_now = (
           record {
             held = held_replaced spell width 0 old new (here.number ∷ []) before (here ∷ []) (head ∷ []) after no_page keeps off.0 off.1 refl stack.0.held (held, tt);
-            few = each_row (λ p. length p.items ≤ capacity width) before here head [] after stack.0.few (room, tt);
+            few = each_row (λ p. length p.items ≤ node_most width) before here head [] after stack.0.few (room, tt);
           },
           record { pairs_are = new_pairs; rises = rises_cut before here head after xs e ys has refl refl rises },
         );
@@ -172,7 +175,7 @@ module _ (spell : Spell) (old mid : Cells) (width : ℕ) (pairs : List (List ℕ
   abbrev row_of : Row
   row_of = lw.before ++ lw.here ∷ lw.after
 
-  pub lowered_full : least width ≤ length lw.here.items → Filled spell old mid width pairs front back lower entries
+  pub lowered_full : node_least width ≤ length lw.here.items → Filled spell old mid width pairs front back lower entries
   lowered_full long = record {
     row = row_of;
     rest = lw.rest;
@@ -180,14 +183,14 @@ module _ (spell : Spell) (old mid : Cells) (width : ℕ) (pairs : List (List ℕ
     stack = lw.stack;
     distinct = lw.distinct;
     names_are = lw.names_are;
-    full = each_append (λ p. least width ≤ length p.items) lw.before (lw.here ∷ lw.after) lw.full_before (long, lw.full_after);
+    full = each_append (λ p. node_least width ≤ length p.items) lw.before (lw.here ∷ lw.after) lw.full_before (long, lw.full_after);
     own = lw.own;
     keeps = lw.keeps;
     loses_none = lw.loses_none;
     made = lw.made;
   }
 
-  module _ (us : List Entry) (a b : Entry) (vs : List Entry) (are : entries ≡ us ++ a ∷ b ∷ vs) (near : (place ≡ length us) ⊎ (place ≡ suc (length us))) (many : 0 < least width) where
+  module _ (us : List Entry) (a b : Entry) (vs : List Entry) (are : entries ≡ us ++ a ∷ b ∷ vs) (near : (place ≡ length us) ⊎ (place ≡ suc (length us))) (many : 0 < node_least width) where
     names_two : names row_of ≡ (front ++ us) ++ a ∷ b ∷ (vs ++ back)
     names_two = lw.names_are ∙ ap (λ (l : List Entry). front ++ (l ++ back)) are ∙ ap (λ (l : List Entry). front ++ l) (append_assoc us (a ∷ b ∷ vs) back) ∙ sym (append_assoc front us (a ∷ b ∷ (vs ++ back)))
 
@@ -203,8 +206,8 @@ module _ (spell : Spell) (old mid : Cells) (width : ℕ) (pairs : List (List ℕ
     near_two : (length lw.before ≡ length two_of.before) ⊎ (length lw.before ≡ suc (length two_of.before))
     near_two = ⊎_elim (λ (same : place ≡ length us). inl (omega (arith, same, long_two, lw.place_is))) (λ (same : place ≡ suc (length us)). inr (omega (arith, same, long_two, lw.place_is))) near
 
-    but_full : AllBut (λ p. least width ≤ length p.items) two_of.before two_of.left two_of.right two_of.after
-    but_full = all_but (λ p. least width ≤ length p.items) lw.before lw.here lw.after two_of.before two_of.left two_of.right two_of.after two_of.is near_two lw.full_before lw.full_after
+    but_full : AllBut (λ p. node_least width ≤ length p.items) two_of.before two_of.left two_of.right two_of.after
+    but_full = all_but (λ p. node_least width ≤ length p.items) lw.before lw.here lw.after two_of.before two_of.left two_of.right two_of.after two_of.is near_two lw.full_before lw.full_after
 
     stack_two : IsStack spell mid width pairs (was_two ∷ lw.rest)
     stack_two = subst (λ (r : Row). IsStack spell mid width pairs (r ∷ lw.rest)) two_of.is lw.stack
@@ -223,8 +226,8 @@ module _ (spell : Spell) (old mid : Cells) (width : ℕ) (pairs : List (List ℕ
 
     some_two : Each (λ p. 0 < length p.items) was_two
     some_two = subst (Each (λ p. 0 < length p.items)) two_of.is (each_append (λ p. 0 < length p.items) lw.before (lw.here ∷ lw.after)
-        (each_weaker (λ p. least width ≤ length p.items) (λ p. 0 < length p.items) lw.before (λ p long. omega (arith, long, many)) lw.full_before)
-        (lw.some, each_weaker (λ p. least width ≤ length p.items) (λ p. 0 < length p.items) lw.after (λ p long. omega (arith, long, many)) lw.full_after))
+        (each_weaker (λ p. node_least width ≤ length p.items) (λ p. 0 < length p.items) lw.before (λ p long. omega (arith, long, many)) lw.full_before)
+        (lw.some, each_weaker (λ p. node_least width ≤ length p.items) (λ p. 0 < length p.items) lw.after (λ p long. omega (arith, long, many)) lw.full_after))
 
     pub neighbours_of : Neighbours spell mid width (length lw.rest) two_of.left two_of.right (first two_of.after no_page)
     neighbours_of =
@@ -262,7 +265,7 @@ module _ (spell : Spell) (old mid : Cells) (width : ℕ) (pairs : List (List ℕ
               ∙ ap (λ (l : List Entry). (front ++ us) ++ (a ∷ l)) (sym (append_assoc (names extra) vs back))
               ∙ append_assoc front us (a ∷ ((names extra ++ vs) ++ back))
               ∙ ap (λ (l : List Entry). front ++ l) (sym (append_assoc us (a ∷ (names extra ++ vs)) back));
-          full = each_append (λ p. least width ≤ length p.items) two_of.before (head ∷ (extra ++ two_of.after)) but_full.all_before (mid_full.0, each_append (λ p. least width ≤ length p.items) extra two_of.after mid_full.1 but_full.all_after);
+          full = each_append (λ p. node_least width ≤ length p.items) two_of.before (head ∷ (extra ++ two_of.after)) but_full.all_before (mid_full.0, each_append (λ p. node_least width ≤ length p.items) extra two_of.after mid_full.1 but_full.all_after);
           own = even_own spell mid new width pairs two_of.before two_of.left two_of.right two_of.after lw.rest head extra ev (IsIn (pages lower)) own_two;
           keeps = keeps_then (pages lower) (two_of.left.number ∷ two_of.right.number ∷ []) (pages lower) old mid new (λ n is. is) (λ n is. ⊎_elim (λ (same : two_of.left.number ≡ n). subst (IsIn (pages lower)) same mine.0) (λ (more : IsIn (two_of.right.number ∷ []) n). ⊎_elim (λ (same : two_of.right.number ≡ n). subst (IsIn (pages lower)) same mine.1.0) (λ (none : ⊥). absurd none) more) is) lw.keeps ev.keeps;
           loses_none = λ n is. step_two n (lost_two n is);
@@ -289,14 +292,14 @@ module _ (spell : Spell) (old mid : Cells) (width : ℕ) (pairs : List (List ℕ
 module _ (spell : Spell) (old : Cells) (width level number : ℕ) (target : List ℕ) (pairs : List (List ℕ)) (spot : Spot spell old width level number target pairs) (lrow : Row) (lrows : List Row) (is : spot.lower ≡ lrow ∷ lrows) where
   -- what a removal below the child of an entry makes of the rows below
   pub lowered : (xs : List Entry) (e : Entry) (ys : List Entry) (has : spot.here.items ≡ xs ++ e ∷ ys) (mid : Cells) (child : ℕ) (height : length lrows ≡ child) (from : IsLess target e.pair → ⊥) (next : (d : Entry) (ds : List Entry) → ys ≡ d ∷ ds → IsLess target d.pair) (count : ℕ)
-      → Removes (below spell old width level number target pairs spot lrow lrows is xs e ys has child height from next) mid count → 2 ≤ least width
+      → Removes (below spell old width level number target pairs spot lrow lrows is xs e ys has child height from next) mid count → 2 ≤ node_least width
       → Lowered spell old mid width (without_pair target pairs) (items spot.before) (items spot.after) (lrow ∷ lrows) spot.here.items (length xs)
   lowered xs e ys has mid child height from next count rem many =
       let stack = stack_is spell old width level number target pairs spot lrow lrows is xs e ys has in
       let cut = child_split spell old width target pairs spot.before spot.here spot.after lrow lrows stack xs e ys has in
       let name_head : name rem.head ≡ e = (λ i. record { pair = rem.head_low i; child = rem.head_number i }) ∙ cut.here_is in
-      let full_old : Each (λ p. least width ≤ length p.items) (cut.before ++ cut.here ∷ cut.after) = subst (Each (λ p. least width ≤ length p.items)) cut.is stack.1.full in
-      let full_right = each_right (λ p. least width ≤ length p.items) cut.before (cut.here ∷ cut.after) full_old in
+      let full_old : Each (λ p. node_least width ≤ length p.items) (cut.before ++ cut.here ∷ cut.after) = subst (Each (λ p. node_least width ≤ length p.items)) cut.is stack.1.full in
+      let full_right = each_right (λ p. node_least width ≤ length p.items) cut.before (cut.here ∷ cut.after) full_old in
       let touched_is : pages ((cut.before ++ cut.here ∷ cut.after) ∷ lrows) ≡ pages (lrow ∷ lrows) = ap (λ (r : Row). pages (r ∷ lrows)) (sym cut.is) in
       record {
         before = cut.before;
@@ -314,7 +317,7 @@ module _ (spell : Spell) (old : Cells) (width level number : ℕ) (target : List
             ∙ ap (λ (l : List Entry). items spot.before ++ (l ++ items spot.after)) (sym has);
         place_is = sym (length-map cut.before name) ∙ ap (λ (l : List Entry). length l) cut.before_is ∙ length-append (items spot.before) xs;
         some = omega (arith, rem.lacks_one, full_right.0, many);
-        full_before = each_left (λ p. least width ≤ length p.items) cut.before (cut.here ∷ cut.after) full_old;
+        full_before = each_left (λ p. node_least width ≤ length p.items) cut.before (cut.here ∷ cut.after) full_old;
         full_after = full_right.1;
         own = subst (λ (l : List ℕ). Each (IsIn l) (pages ((cut.before ++ rem.head ∷ cut.after) ∷ rem.rest))) touched_is rem.own;
         keeps = subst (λ (l : List ℕ). Keeps l old mid) touched_is rem.keeps;
@@ -323,7 +326,7 @@ module _ (spell : Spell) (old : Cells) (width level number : ℕ) (target : List
       }
 
   pub filled_lowered : (xs : List Entry) (e : Entry) (ys : List Entry) (has : spot.here.items ≡ xs ++ e ∷ ys) (mid : Cells) (child : ℕ) (height : length lrows ≡ child) (from : IsLess target e.pair → ⊥) (next : (d : Entry) (ds : List Entry) → ys ≡ d ∷ ds → IsLess target d.pair) (count : ℕ)
-      → Removes (below spell old width level number target pairs spot lrow lrows is xs e ys has child height from next) mid count → 2 ≤ least width → least width ≤ count
+      → Removes (below spell old width level number target pairs spot lrow lrows is xs e ys has child height from next) mid count → 2 ≤ node_least width → node_least width ≤ count
       → Filled spell old mid width (without_pair target pairs) (items spot.before) (items spot.after) (lrow ∷ lrows) spot.here.items
   unfolding lowered
   filled_lowered xs e ys has mid child height from next count rem many long =
@@ -332,7 +335,7 @@ module _ (spell : Spell) (old : Cells) (width level number : ℕ) (target : List
   wider : (n : ℕ) → IsIn (pages (lrow ∷ lrows)) n → IsIn (pages (rows_at spot)) n
   wider n there = in_right (numbers (spot.before ++ spot.here ∷ spot.after)) (pages spot.lower) n (subst (λ (l : List Row). IsIn (pages l) n) (sym is) there)
 
-  pub inner_removes : (mid new : Cells) (entries : List Entry) → Filled spell old mid width (without_pair target pairs) (items spot.before) (items spot.after) (lrow ∷ lrows) entries → Begins spot.here.low entries → length spot.here.items ≤ length entries + 1 → length entries ≤ capacity width
+  pub inner_removes : (mid new : Cells) (entries : List Entry) → Filled spell old mid width (without_pair target pairs) (items spot.before) (items spot.after) (lrow ∷ lrows) entries → Begins spot.here.low entries → length spot.here.items ≤ length entries + 1 → length entries ≤ node_most width
       → HoldsAt spell new (suc (length lrows)) spot.here.number no_page (stored width (suc (length lrows)) entries) → Keeps (spot.here.number ∷ []) mid new → LosesNone (spot.here.number ∷ []) (spot.here.number ∷ []) mid new → Removes spot new (length entries)
   inner_removes mid new entries fl begins lacks room written keeps loses =
       let before : Row = spot.before in
@@ -368,7 +371,7 @@ module _ (spell : Spell) (old : Cells) (width level number : ℕ) (target : List
         stack_now = (
           record {
             held = subst (λ (n : ℕ). HoldsRow spell new width (suc n) now no_page) height_now row_now;
-            few = each_row (λ p. length p.items ≤ capacity width) before here head [] after stack.0.few (room, tt);
+            few = each_row (λ p. length p.items ≤ node_most width) before here head [] after stack.0.few (room, tt);
           },
           record {
             heads = each_row HasHead before here head [] after stack.1.heads (begins, tt);

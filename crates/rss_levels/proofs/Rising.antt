@@ -1,6 +1,7 @@
 -- The bounds of a row rise, and so the entries of the row above it.
 use Rattle.std.proofs.Common.{ℕ, List, [], ◌∷◌, ◌++◌, map, sym, subst}
-use Rattle.rss_levels.specs.Entries.{Entry, IsLess, Each, Pairwise}
+use Rattle.rss_base.specs.Entries.{Entry, IsLess}
+use Rattle.rss_levels.specs.Entries.{Each, Pairwise}
 use Rattle.rss_levels.specs.Rows.{Part, Row, Cells, Spell, Mark, IsBefore, fence, item, marks, name, names, items, HasHead, Begins, IsStack}
 use Rattle.rss_levels.proofs.Lists.{each_left, each_right, each_weaker, pairwise_right}
 use Rattle.rss_levels.proofs.Order.{less_fences}

@@ -5,11 +5,13 @@ use Rattle.std.specs.declared.cmp.Ordering.{Ordering}
 use Rattle.std.specs.declared.cmp.Ordering.TheVariants.{Less, Equal, Greater}
 use Rattle.std.specs.Cmp.Lexicographic.{slice_cmp}
 use Rattle.std.proofs.lemmas.Grind.{flat_map-append}
-use Rattle.rss_levels.specs.Entries.{Entry, Each, Pairwise, IsLess}
+use Rattle.rss_base.specs.Entries.{Entry, IsLess}
+use Rattle.rss_levels.specs.Entries.{Each, Pairwise}
 use Rattle.rss_levels.specs.Rows.{Part, Row, IsBefore, fence, item, marks, marks_of, items, leaf_entry}
 use Rattle.rss_levels.specs.Sought.{is_passed, first_from, IsPassedBy}
 use Rattle.rss_levels.proofs.Lists.{each_append, each_left, each_right, each_weaker, pairwise_cross, pairwise_right}
-use Rattle.rss_levels.proofs.Order.{less_trans, less_asym, less_fence, less_item, before_trans, before_less, greater_less}
+use Rattle.rss_base.proofs.Entries.{less_trans, less_asym, greater_less}
+use Rattle.rss_levels.proofs.Order.{less_fence, less_item, before_trans, before_less}
 use Rattle.std.specs.FinMap.{slice_cmp-IsAntisymmetric, nat_cmp-IsAntisymmetric}
 
 not_lt : (o : Ordering) → (o ≡ Less → ⊥) → is_lt o ≡ false

@@ -1,8 +1,10 @@
 -- What is known of the node at a spot.
 use Rattle.std.proofs.Common.{◌<◌, ◌≤◌, ◌≡◌, ℕ, suc, zero, List, [], ◌∷◌, ◌++◌, length, map, take, drop, refl, sym, ap, subst, arith}
 use Rattle.std.specs.Prelude.{slice_index_or}
-use Rattle.rss_levels.specs.Entries.{Entry, Each, zeros, capacity}
-use Rattle.rss_levels.specs.Rows.{Part, Row, Cells, Spell, HoldsAt, HoldsRow, IsRow, IsStack, HasHead, Begins, items, first, link, no_page, leaf_entry, stored}
+use Rattle.rss_base.specs.Entries.{Entry, no_page}
+use Rattle.rss_base.specs.Nodes.{node_most}
+use Rattle.rss_levels.specs.Entries.{Each, zeros}
+use Rattle.rss_levels.specs.Rows.{Part, Row, Cells, Spell, HoldsAt, HoldsRow, IsRow, IsStack, HasHead, Begins, items, first, link, leaf_entry, stored}
 use Rattle.rss_levels.specs.Spots.{Spot}
 use Rattle.rss_levels.proofs.Lists.{each_left, each_right, each_map}
 use Rattle.rss_levels.proofs.Held.{held_right, link_append}
@@ -85,8 +87,8 @@ module _ (spell : Spell) (cells : Cells) (width level number : ℕ) (target : Li
   pub spot_some : 0 < level → 0 < length spot.here.items
   spot_some inner = (begins_place spot.here.low spot.here.items (stack_head spell cells width pairs spot.before spot.here spot.after spot.lower (omega (arith, inner, spot.level_is)) spot.stack)).0
 
-  pub spot_few : length spot.here.items ≤ capacity width
-  spot_few = (each_right (λ p. length p.items ≤ capacity width) spot.before (spot.here ∷ spot.after) (stack_row spell cells width pairs (spot.before ++ spot.here ∷ spot.after) spot.lower spot.stack).few).0
+  pub spot_few : length spot.here.items ≤ node_most width
+  spot_few = (each_right (λ p. length p.items ≤ node_most width) spot.before (spot.here ∷ spot.after) (stack_row spell cells width pairs (spot.before ++ spot.here ∷ spot.after) spot.lower spot.stack).few).0
 
 -- the first entry of an inner node, as it is stored, has zeros
 pub stored_first : (width level : ℕ) (es : List Entry) → 0 < level → 0 < length es → (at_place (stored width level es) 0).pair ≡ zeros width

@@ -1,8 +1,10 @@
 -- Whole trees.
 use Rattle.std.proofs.Common.{◌<◌, ◌≤◌, ◌≡◌, inl, inr, ℕ, suc, ◌+◌, ◌-◌, List, [], ◌∷◌, ◌++◌, length, refl, sym, ◌∙◌, ap, subst, arith, None}
 use Rattle.std.proofs.lemmas.List.{append-nil}
-use Rattle.rss_levels.specs.Entries.{Entry, Each, IsIn, IsLess, zeros, least, capacity}
-use Rattle.rss_levels.specs.Rows.{Part, Row, Cells, Spell, HoldsAt, IsStack, IsTree, AreDistinct, names, pages, no_page}
+use Rattle.rss_base.specs.Entries.{Entry, IsLess, no_page}
+use Rattle.rss_base.specs.Nodes.{node_least, node_most}
+use Rattle.rss_levels.specs.Entries.{Each, IsIn, zeros}
+use Rattle.rss_levels.specs.Rows.{Part, Row, Cells, Spell, HoldsAt, IsStack, IsTree, AreDistinct, names, pages}
 use Rattle.rss_levels.specs.Spots.{Keeps, Spot, Inserts, with_pair}
 use Rattle.rss_levels.proofs.Order.{zeros_least}
 use Rattle.rss_levels.proofs.Pages.{stack_held, stack_kept, fresh_behind}
@@ -25,7 +27,7 @@ root_spot spell cells width root levels target pairs top lower tree long = recor
   high = tt;
 }
 
-module _ (spell : Spell) (old : Cells) (width root levels : ℕ) (target : List ℕ) (pairs : List (List ℕ)) (top : Part) (lower : List Row) (tree : IsTree spell old width root levels pairs top lower) (long : length target ≡ width + 6) (many : 2 ≤ least width) where
+module _ (spell : Spell) (old : Cells) (width root levels : ℕ) (target : List ℕ) (pairs : List (List ℕ)) (top : Part) (lower : List Row) (tree : IsTree spell old width root levels pairs top lower) (long : length target ≡ width + 6) (many : 2 ≤ node_least width) where
   abbrev spot : Spot spell old width (levels - 1) root target pairs
   spot = root_spot spell old width root levels target pairs top lower tree long
 
@@ -48,7 +50,7 @@ module _ (spell : Spell) (old : Cells) (width root levels : ℕ) (target : List 
       no_names (p ∷ row) is = absurd (cc)
 
   -- the root is split, and a new root names the two nodes
-  pub tree_split : (mid new : Cells) (e : Entry) (ins : Inserts spot mid (e ∷ [])) (number : ℕ) → HoldsAt spell new levels number no_page (record { pair = zeros width; child = root } ∷ e ∷ []) → mid number ≡ None → Keeps [] mid new → 2 ≤ capacity width
+  pub tree_split : (mid new : Cells) (e : Entry) (ins : Inserts spot mid (e ∷ [])) (number : ℕ) → HoldsAt spell new levels number no_page (record { pair = zeros width; child = root } ∷ e ∷ []) → mid number ≡ None → Keeps [] mid new → 2 ≤ node_most width
       → IsTree spell new width number (suc levels) (with_pair target pairs) (record { number = number; low = zeros width; items = record { pair = zeros width; child = root } ∷ e ∷ [] }) ((ins.head ∷ (ins.extra ++ [])) ∷ ins.rest)
   tree_split mid new e ins number held fresh keeps room =
       let row : Row = ins.head ∷ (ins.extra ++ []) in
@@ -63,7 +65,7 @@ module _ (spell : Spell) (old : Cells) (width root levels : ℕ) (target : List 
           record {
             heads = (refl, tt);
             names_are = (λ i. name_head i ∷ sym ins.names_are i) ∙ ap names (sym whole);
-            full = subst (Each (λ p. least width ≤ length p.items)) (sym whole) (ins.full (least width) (omega arith) (inr (extra_some ins.extra ins.names_are)));
+            full = subst (Each (λ p. node_least width ≤ length p.items)) (sym whole) (ins.full (node_least width) (omega arith) (inr (extra_some ins.extra ins.names_are)));
           },
           kept,
         );

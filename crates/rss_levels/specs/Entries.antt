@@ -1,29 +1,9 @@
--- Entries of nodes, and their order.
-use Rattle.std.specs.Prelude.{◌≡◌, ◌⊎◌, ℕ, ◌+◌, ◌/◌, List, [], ◌∷◌, replicate}
-use Rattle.std.specs.Ordering.{nat_cmp}
-use Rattle.std.specs.declared.cmp.Ordering.TheVariants.{Less}
-use Rattle.std.specs.Cmp.Lexicographic.{slice_cmp}
-
--- how many entries a node has at most, where keys have this width
-abbrev pub capacity : ℕ → ℕ
-capacity width = 4064 / (width + 10)
-
--- how many a node other than the root has at least
-abbrev pub least : ℕ → ℕ
-least width = capacity width / 2
-
--- An entry: a pair, which is the bytes of a key and those of an identifier, and the number of a child's page.
-pub record Entry : Type 0 where
-  pub pair : List ℕ
-  pub child : ℕ
+-- Lists of entries.
+use Rattle.std.specs.Prelude.{◌≡◌, ◌⊎◌, ℕ, ◌+◌, List, [], ◌∷◌, replicate}
 
 -- the pair of the first entry of an inner node, which is below every other
 abbrev pub zeros : ℕ → List ℕ
 zeros width = replicate (width + 6) 0
-
--- pairs are ordered by their bytes
-pub record IsLess (a b : List ℕ) : Type 0 where
-  pub is : slice_cmp nat_cmp a b ≡ Less
 
 -- ---- lists
 

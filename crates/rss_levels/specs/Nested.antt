@@ -1,7 +1,9 @@
 -- The nodes of a tree, each with those under it.
 use Rattle.std.specs.Prelude.{◌≡◌, ◌≢◌, ℕ, suc, ◌≤◌, List, [], ◌∷◌, ◌++◌, length}
-use Rattle.rss_levels.specs.Entries.{Each, Pairwise, IsIn, least}
-use Rattle.rss_levels.specs.Rows.{Part, Row, Cells, Spell, HoldsAt, HasHead, first, names, no_page, stored}
+use Rattle.rss_base.specs.Nodes.{node_least}
+use Rattle.rss_levels.specs.Entries.{Each, Pairwise, IsIn}
+use Rattle.rss_base.specs.Entries.{no_page}
+use Rattle.rss_levels.specs.Rows.{Part, Row, Cells, Spell, HoldsAt, HasHead, first, names, stored}
 
 mutual
   -- Under a node stand these pages, its own among them, and these leaves, with this leaf behind them.
@@ -11,7 +13,7 @@ mutual
         → HoldsAt spell cells (suc level) p.number no_page (stored width (suc level) p.items)
         → HasHead p
         → p.items ≡ names row
-        → Each (λ q. least width ≤ length q.items) row
+        → Each (λ q. node_least width ≤ length q.items) row
         → AreUnder spell cells width level row ns leaves end
         → IsUnder spell cells width (suc level) p (p.number ∷ ns) leaves end
 

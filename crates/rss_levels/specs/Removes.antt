@@ -2,7 +2,9 @@
 use Rattle.std.specs.Prelude.{◌≡◌, ◌≢◌, ◌⊎◌, ℕ, suc, ◌+◌, ◌<◌, ◌≤◌, if◌then◌else◌, Bool, List, [], ◌∷◌, ◌++◌, length}
 use Rattle.std.specs.Ordering.{nat_cmp, is_eq}
 use Rattle.std.specs.Cmp.Lexicographic.{slice_cmp}
-use Rattle.rss_levels.specs.Entries.{Entry, Each, least, capacity, IsIn}
+use Rattle.rss_base.specs.Entries.{Entry}
+use Rattle.rss_base.specs.Nodes.{node_least, node_most}
+use Rattle.rss_levels.specs.Entries.{Each, IsIn}
 use Rattle.rss_levels.specs.Rows.{Part, Row, Cells, Spell, HoldsRow, IsStack, AreDistinct, HasHead, items, names, numbers, pages}
 use Rattle.rss_levels.specs.Spots.{Keeps, LosesNone, AreMade, Spot, rows_at}
 
@@ -45,8 +47,8 @@ pub record Evens (spell : Spell) (old new : Cells) (width level : ℕ) (left rig
   pub few_extra : length extra ≤ 1
   pub extra_number : Each (λ p. p.number ≡ right.number) extra
   pub held : HoldsRow spell new width level (head ∷ extra) next
-  pub few : Each (λ p. length p.items ≤ capacity width) (head ∷ extra)
-  pub full : (least width ≤ length left.items) ⊎ (least width ≤ length right.items) → Each (λ p. least width ≤ length p.items) (head ∷ extra)
+  pub few : Each (λ p. length p.items ≤ node_most width) (head ∷ extra)
+  pub full : (node_least width ≤ length left.items) ⊎ (node_least width ≤ length right.items) → Each (λ p. node_least width ≤ length p.items) (head ∷ extra)
   pub keeps : Keeps (left.number ∷ right.number ∷ []) old new
   pub loses_none : LosesNone (left.number ∷ right.number ∷ []) (numbers (head ∷ extra)) old new
 
@@ -62,8 +64,8 @@ pub record Lowered (spell : Spell) (old new : Cells) (width : ℕ) (pairs : List
   pub names_are : names (before ++ here ∷ after) ≡ front ++ (entries ++ back)
   pub place_is : length before ≡ length front + place
   pub some : 0 < length here.items
-  pub full_before : Each (λ p. least width ≤ length p.items) before
-  pub full_after : Each (λ p. least width ≤ length p.items) after
+  pub full_before : Each (λ p. node_least width ≤ length p.items) before
+  pub full_after : Each (λ p. node_least width ≤ length p.items) after
   pub own : Each (IsIn (pages lower)) (pages ((before ++ here ∷ after) ∷ rest))
   pub keeps : Keeps (pages lower) old new
   pub loses_none : LosesNone (pages lower) (pages ((before ++ here ∷ after) ∷ rest)) old new
@@ -77,7 +79,7 @@ pub record Filled (spell : Spell) (old new : Cells) (width : ℕ) (pairs : List 
   pub stack : IsStack spell new width pairs (row ∷ rest)
   pub distinct : AreDistinct (row ∷ rest)
   pub names_are : names row ≡ front ++ (entries ++ back)
-  pub full : Each (λ p. least width ≤ length p.items) row
+  pub full : Each (λ p. node_least width ≤ length p.items) row
   pub own : Each (IsIn (pages lower)) (pages (row ∷ rest))
   pub keeps : Keeps (pages lower) old new
   pub loses_none : LosesNone (pages lower) (pages (row ∷ rest)) old new

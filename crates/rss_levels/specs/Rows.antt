@@ -5,7 +5,9 @@ use Rattle.std.specs.Ordering.{nat_cmp, on, then_cmp}
 use Rattle.std.specs.declared.cmp.Ordering.{Ordering}
 use Rattle.std.specs.declared.cmp.Ordering.TheVariants.{Less}
 use Rattle.std.specs.Cmp.Lexicographic.{slice_cmp}
-use Rattle.rss_levels.specs.Entries.{Entry, Each, Pairwise, capacity, least, zeros}
+use Rattle.rss_base.specs.Entries.{Entry, no_page}
+use Rattle.rss_base.specs.Nodes.{node_most, node_least}
+use Rattle.rss_levels.specs.Entries.{Each, Pairwise, zeros}
 
 -- A node of a row: its page's number, the bound below its entries, and its entries, each with its true pair.
 pub record Part : Type 0 where
@@ -74,10 +76,6 @@ pub record HoldsAt (spell : Spell) (cells : Cells) (level number next : ℕ) (en
   pub held : cells number ≡ Some bytes
   pub spells : spell bytes level number next entries
 
--- no next leaf
-abbrev pub no_page : ℕ
-no_page = 4294967295
-
 abbrev pub first : Row → ℕ → ℕ
 first [] end = end
 first (p ∷ row) end = p.number
@@ -113,7 +111,7 @@ HasHead p = Begins p.low p.items
 
 pub record IsRow (spell : Spell) (cells : Cells) (width level : ℕ) (row : Row) : Type 0 where
   pub held : HoldsRow spell cells width level row no_page
-  pub few : Each (λ p. length p.items ≤ capacity width) row
+  pub few : Each (λ p. length p.items ≤ node_most width) row
 
 abbrev pub leaf_entry : List ℕ → Entry
 leaf_entry pair = record { pair = pair; child = 0 }
@@ -127,7 +125,7 @@ pub record IsLeaves (pairs : List (List ℕ)) (row : Row) : Type 0 where
 pub record IsAbove (width : ℕ) (row lower : Row) : Type 0 where
   pub heads : Each HasHead row
   pub names_are : items row ≡ names lower
-  pub full : Each (λ p. least width ≤ length p.items) lower
+  pub full : Each (λ p. node_least width ≤ length p.items) lower
 
 -- the rows from one down to the leaves, with these pairs
 abbrev pub IsStack : Spell → Cells → ℕ → List (List ℕ) → List Row → Type 0

@@ -2,7 +2,7 @@
 use Rattle.std.specs.Prelude.{ℕ, List, [], ◌∷◌, Option, Some, None, Bool, true, false, if◌then◌else◌}
 use Rattle.std.specs.Ordering.{nat_cmp, is_lt}
 use Rattle.std.specs.Cmp.Lexicographic.{slice_cmp}
-use Rattle.rss_levels.specs.Entries.{IsLess}
+use Rattle.rss_base.specs.Entries.{IsLess}
 
 -- whether a pair is passed by a search for the first one above another, or at or above it
 abbrev pub is_passed : Bool → List ℕ → List ℕ → Bool

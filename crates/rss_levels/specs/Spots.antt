@@ -2,8 +2,10 @@
 use Rattle.std.specs.Prelude.{◌≡◌, ◌⊎◌, ℕ, ◌<◌, ◌≤◌, if◌then◌else◌, List, [], ◌∷◌, ◌++◌, length, Some, None, Bool, true}
 use Rattle.std.specs.Ordering.{nat_cmp, is_lt}
 use Rattle.std.specs.Cmp.Lexicographic.{slice_cmp}
-use Rattle.rss_levels.specs.Entries.{Entry, IsLess, Each, IsIn, capacity, least}
-use Rattle.rss_levels.specs.Rows.{Part, Row, Cells, Spell, HoldsRow, IsStack, AreDistinct, HasHead, names, items, numbers, pages}
+use Rattle.rss_base.specs.Entries.{Entry, IsLess}
+use Rattle.rss_base.specs.Nodes.{node_most, node_least}
+use Rattle.rss_levels.specs.Entries.{Each, IsIn}
+use Rattle.rss_levels.specs.Rows.{Part, Row, Cells, Spell, IsStack, AreDistinct, names, pages}
 
 -- the sorted list with one more pair
 abbrev pub with_pair : List ℕ → List (List ℕ) → List (List ℕ)
@@ -51,28 +53,12 @@ pub record HasFull (width : ℕ) (row : Row) : Type 0 where
   pub here : Part
   pub after : Row
   pub is : row ≡ before ++ here ∷ after
-  pub full : capacity width ≤ length here.items
+  pub full : node_most width ≤ length here.items
 
 -- An insert takes a page for each row from the leaves up, as far as rows have nodes without room, and so many can be taken.
 abbrev pub HasRoom : ℕ → ℕ → List Row → Type 0
 HasRoom width spare [] = Unit {0}
 HasRoom width spare (row ∷ lower) = (Each (HasFull width) (row ∷ lower) → length (row ∷ lower) ≤ spare) × HasRoom width spare lower
-
--- In place of a node stand one or two, which have these entries together. The first one has the old one's page and bound, and the second one's page wasn't mapped.
-pub record Replaces (spell : Spell) (old new : Cells) (width level : ℕ) (here : Part) (next : ℕ) (entries : List Entry) (head : Part) (extra : Row) : Type 0 where
-  pub number_is : head.number ≡ here.number
-  pub low_is : head.low ≡ here.low
-  pub entries_are : items (head ∷ extra) ≡ entries
-  pub some : 0 < length head.items
-  pub heads : Each HasHead extra
-  pub few_extra : length extra ≤ 1
-  pub held : HoldsRow spell new width level (head ∷ extra) next
-  pub few : Each (λ p. length p.items ≤ capacity width) (head ∷ extra)
-  pub full : (n : ℕ) → n ≤ least width → (n ≤ length here.items) ⊎ (0 < length extra) → Each (λ p. n ≤ length p.items) (head ∷ extra)
-  pub split_full : 0 < length extra → capacity width < length entries
-  pub fresh : Each (λ p. old p.number ≡ None) extra
-  pub keeps : Keeps (here.number ∷ []) old new
-  pub loses_none : LosesNone (here.number ∷ []) (numbers (head ∷ extra)) old new
 
 -- The pair is put under a node. In its place stand it and perhaps another, by these names of the others.
 pub record Inserts {spell : Spell} {old : Cells} {width level number : ℕ} {target : List ℕ} {pairs : List (List ℕ)} (spot : Spot spell old width level number target pairs) (new : Cells) (more : List Entry) : Type 0 where
@@ -86,7 +72,7 @@ pub record Inserts {spell : Spell} {old : Cells} {width level number : ℕ} {tar
   pub same_height : length rest ≡ length spot.lower
   pub stack_now : IsStack spell new width (with_pair target pairs) ((spot.before ++ head ∷ (extra ++ spot.after)) ∷ rest)
   pub distinct_now : AreDistinct ((spot.before ++ head ∷ (extra ++ spot.after)) ∷ rest)
-  pub full : (n : ℕ) → n ≤ least width → (n ≤ length spot.here.items) ⊎ (0 < length extra) → Each (λ p. n ≤ length p.items) (head ∷ extra)
+  pub full : (n : ℕ) → n ≤ node_least width → (n ≤ length spot.here.items) ⊎ (0 < length extra) → Each (λ p. n ≤ length p.items) (head ∷ extra)
   pub own : Each (IsOwn (pages (rows_at spot)) old) (pages ((spot.before ++ head ∷ (extra ++ spot.after)) ∷ rest))
   pub keeps : Keeps (pages (rows_at spot)) old new
   pub loses_none : LosesNone (pages (rows_at spot)) (pages ((spot.before ++ head ∷ (extra ++ spot.after)) ∷ rest)) old new

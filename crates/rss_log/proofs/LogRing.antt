@@ -6,7 +6,8 @@ use Rattle.rss_base.specs.DiskRule.{Pages, page}
 use Rattle.rss_base.specs.Layout.{log_at}
 use Rattle.rss_base.specs.declared.root.Root.{Root}
 use Rattle.rss_base.specs.LogRecords.{Placed, ArePlaced, Parses}
-use Rattle.rss_base.specs.LogPages.{piece, pieces, log_from, log_bytes, IsPiecePage, IsLogPage, IsNewPiece, HasRoom, HoldsPieces, Grows}
+use Rattle.rss_base.proofs.LogPages.{IsLogPage}
+use Rattle.rss_base.specs.LogPages.{piece, pieces, log_from, log_bytes, IsPiecePage, IsNewPiece, HasRoom, HoldsPieces, Grows}
 use Rattle.rss_log.proofs.RingBytes.{ring_apart}
 use Rattle.rss_record.proofs.Parsing.{parses_append, parses_length, parses_drop, placed_length}
 

@@ -6,7 +6,8 @@ use Rattle.std.proofs.lemmas.Nat.{be_bytes_2, be_bytes_4, from_be_bytes-to_be_by
 use Rattle.std.proofs.lemmas.List.{take-append-drop, take_at, drop_at, drop-drop, drop-take, take-take, append-nil, drop_all, get_or-take, get_or-drop}
 use Rattle.rss_base.specs.Nodes.{node_entry_spelled}
 use Rattle.rss_node.specs.Nodes.{part, entry_from, entries_from}
-use Rattle.rss_node.specs.Pairs.{IsSpelledTid, IsWhole, pair_bytes, pair_from, key_from, tid_from, node_entry, next_from, base_node, nodes_of_node, HasSlot}
+use Rattle.rss_base.specs.Tids.{IsSpelledTid}
+use Rattle.rss_node.specs.Pairs.{IsWhole, pair_bytes, pair_from, key_from, tid_from, node_entry, next_from, base_node, nodes_of_node, HasSlot}
 use Rattle.rss_node.proofs.Headers.{four, has_room}
 use Rattle.rss_node.proofs.Parts.{low_drop, low_take}
 use Rattle.rss_node.proofs.Codec.{length_entries}

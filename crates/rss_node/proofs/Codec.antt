@@ -2,7 +2,7 @@
 use Rattle.std.proofs.Common.{◌≡◌, ℕ, suc, zero, ◌+◌, ◌-◌, ◌*◌, ◌≤◌, List, [], ◌∷◌, ◌++◌, length, take, drop, refl, sym, ◌∙◌, ap, arith, length-take-le, length-drop}
 use Rattle.std.proofs.lemmas.List.{drop_at, take_at, drop-append-le, take-append-le, drop-drop, take-append-drop}
 use Rattle.std.specs.Int.{w32, from_be_bytes}
-use Rattle.rss_levels.specs.Entries.{Entry}
+use Rattle.rss_base.specs.Entries.{Entry}
 use Rattle.std.specs.Int.{to_be_bytes}
 use Rattle.std.proofs.Common.{◌<◌, ◌^◌}
 use Rattle.std.proofs.lemmas.List.{append-nil}

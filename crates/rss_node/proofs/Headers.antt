@@ -4,7 +4,8 @@ use Rattle.std.proofs.lemmas.List.{drop-append-le, drop-take, drop-drop, get_or-
 use Rattle.std.proofs.lemmas.Nat.{from_be_bytes-to_be_bytes_2}
 use Rattle.std.proofs.Math.Nat.{mul-le-mul_right, div-mul-le_self}
 use Rattle.std.specs.Int.{w16, w32, to_be_bytes, from_be_bytes}
-use Rattle.rss_levels.specs.Entries.{Entry, capacity}
+use Rattle.rss_base.specs.Entries.{Entry}
+use Rattle.rss_base.specs.Nodes.{node_most}
 use Rattle.rss_node.specs.Nodes.{NodeView, part, put, entries_from, count_of, node_from, IsNodePage, spliced, with_entries}
 use Rattle.rss_node.proofs.Parts.{before, part_kept, part_put, length-put, behind, low_append, low_take, low_drop, low_put, low_two, low_four}
 use Rattle.rss_node.specs.Nodes.{IsBytes, AreSpelled}
@@ -49,7 +50,7 @@ says_kept width page page_now kept entries are =
     let next : from_be_bytes w32 (part page_now 12 4) ≡ from_be_bytes w32 (part page 12 4) = ap (from_be_bytes w32) (kept.back 12 4 (omega arith) (omega arith)) in
     λ i. record { width = width; segment = segment i; image = image i; level = level i; number = number i; next = next i; entries = are i }
 
-pub formed_kept : (width : ℕ) (page page_now : List ℕ) → KeepsHeader page page_now → IsNodePage width page → IsBytes page_now → length page_now ≡ 4096 → count_of page_now ≤ capacity width → IsNodePage width page_now
+pub formed_kept : (width : ℕ) (page page_now : List ℕ) → KeepsHeader page page_now → IsNodePage width page → IsBytes page_now → length page_now ≡ 4096 → count_of page_now ≤ node_most width → IsNodePage width page_now
 formed_kept width page page_now kept formed bytes size few = record {
   header = header_low page_now bytes;
   entries = page_low width page_now bytes;
@@ -63,18 +64,18 @@ formed_kept width page page_now kept formed bytes size few = record {
 }
 
 -- so many entries have room
-pub has_room : (width count : ℕ) → count ≤ capacity width → count * (width + 10) ≤ 4064
+pub has_room : (width count : ℕ) → count ≤ node_most width → count * (width + 10) ≤ 4064
 has_room width count few = omega (arith, mul-le-mul_right (width + 10) few, div-mul-le_self 4064 (width + 10))
 
 pub grows : (width a b : ℕ) → a ≤ b → a * (width + 10) ≤ b * (width + 10)
 grows width a b few = mul-le-mul_right (width + 10) few
 
 -- the bytes that are put and moved: how many, and that they have room
-pub moves : (width at removed old count long : ℕ) → at + removed ≤ old → old + count ≤ capacity width + removed → long ≡ count * (width + 10)
+pub moves : (width at removed old count long : ℕ) → at + removed ≤ old → old + count ≤ node_most width + removed → long ≡ count * (width + 10)
     → 32 + at * (width + 10) + (long + (32 + old * (width + 10) - (32 + (at + removed) * (width + 10)))) ≤ 4096
 moves width at removed old count long within room many =
     let rest : ℕ = old - (at + removed) in
-    let all : at + count + rest ≤ capacity width = omega arith in
+    let all : at + count + rest ≤ node_most width = omega arith in
     let few = has_room width (at + count + rest) all in
     let split : old * (width + 10) ≡ at * (width + 10) + removed * (width + 10) + rest * (width + 10) = ap (λ (n : ℕ). n * (width + 10)) (let is : old ≡ at + removed + rest = omega arith in is) ∙ omega arith in
     omega (arith, few, split)
@@ -98,7 +99,7 @@ pub record IsSpliced (width : ℕ) (page front : List ℕ) (at removed : ℕ) (n
   pub bytes : IsBytes front
   pub says : node_from width front ≡ with_entries (node_from width page) (spliced (node_from width page).entries at removed news)
 
-pub spliced_page : (width at removed count now old : ℕ) (page bytes moved front : List ℕ) → IsNodePage width page → IsBytes page → old ≡ count_of page → at + removed ≤ old → IsBytes bytes → length bytes ≡ count * (width + 10) → old + count ≤ capacity width + removed
+pub spliced_page : (width at removed count now old : ℕ) (page bytes moved front : List ℕ) → IsNodePage width page → IsBytes page → old ≡ count_of page → at + removed ≤ old → IsBytes bytes → length bytes ≡ count * (width + 10) → old + count ≤ node_most width + removed
     → now + removed ≡ old + count
     → moved ≡ take (32 + at * (width + 10)) page ++ (bytes ++ (part page (32 + (at + removed) * (width + 10)) (32 + old * (width + 10) - (32 + (at + removed) * (width + 10))) ++ drop (32 + at * (width + 10) + (length bytes + (32 + old * (width + 10) - (32 + (at + removed) * (width + 10))))) page))
     → front ≡ put moved 8 (to_be_bytes w16 now)
@@ -112,7 +113,7 @@ spliced_page width at removed count now old page bytes moved front formed low_pa
     let span : ℕ = 32 + old * size - f in
     let junk : List ℕ = drop (a + (length bytes + span)) page in
     let r : List ℕ = bytes ++ (part page f span ++ junk) in
-    let few : old ≤ capacity width = omega (arith, formed.few, old_is) in
+    let few : old ≤ node_most width = omega (arith, formed.few, old_is) in
     let fits = has_room width old few in
     let whole : at + removed + rest ≡ old = omega arith in
     let split : old * size ≡ at * size + removed * size + rest * size = let e : (at + removed + rest) * size ≡ old * size = ap (λ (n : ℕ). n * size) whole in omega (arith, e) in
@@ -124,7 +125,7 @@ spliced_page width at removed count now old page bytes moved front formed low_pa
     let part_long : length (part page f span) ≡ span = length-take-le span (drop f page) (omega (arith, length-drop f page)) in
     let moved_long : length moved ≡ 4096 = ap length is_moved ∙ omega (arith, length-append (take a page) r, length-append bytes (part page f span ++ junk), length-append (part page f span) junk, length-take-le a page a_low, length-drop (a + (length bytes + span)) page, part_long, moves_fit) in
     let same : (from count : ℕ) → from + count ≤ 32 → part moved from count ≡ part page from count = λ from count lt. ap (λ (l : List ℕ). part l from count) is_moved ∙ before page r a from count a_low (omega arith) in
-    let now_low : now ≤ capacity width = omega (arith, is_now, room) in
+    let now_low : now ≤ node_most width = omega (arith, is_now, room) in
     let low : now < 2 ^ 16 = omega (arith, has_room width now now_low) in
     let head = counted width now page moved front long moved_long same low is_front in
     let start : drop 32 moved ≡ take (at * size) body ++ r =
@@ -267,8 +268,8 @@ part_low page from count i low = ⊎_elim
     (λ (le : count ≤ i). omega (arith, get_or_past (part page from count) i 0 (omega (arith, length-take count (drop from page)))))
     (cases_lt i count)
 
-ap_few : {a b w v : ℕ} → a ≡ b → w ≡ v → b ≤ capacity w → a ≤ capacity v
-ap_few {a = a} {b = b} {w = w} {v = v} one two few = omega (arith, one, ap capacity two, few)
+ap_few : {a b w v : ℕ} → a ≡ b → w ≡ v → b ≤ node_most w → a ≤ node_most v
+ap_few {a = a} {b = b} {w = w} {v = v} one two few = omega (arith, one, ap node_most two, few)
 
 -- ill-formed bytes are no node's
 pub not_read : (of : Nodes) (level number : ℕ) (page : List ℕ) → ((i : ℕ) → get_or page i 0 < 256) → (HasForm of level number page → ⊥) → (node : NodeView) → IsNodeOf of level number node → Spells page node → ⊥

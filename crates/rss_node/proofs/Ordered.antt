@@ -7,7 +7,8 @@ use Rattle.std.specs.declared.cmp.Ordering.{Ordering}
 use Rattle.rss_base.specs.Trees.{Pair, pair_cmp}
 use Rattle.rss_value.proofs.Orders.{slice_cmp-append}
 use Rattle.rss_value.proofs.Numbers.{high_first_cmp}
-use Rattle.rss_node.specs.Pairs.{IsSpelledTid, pair_bytes}
+use Rattle.rss_base.specs.Tids.{IsSpelledTid}
+use Rattle.rss_node.specs.Pairs.{pair_bytes}
 
 four_cmp : (a b : ℕ) → a < 2 ^ 32 → b < 2 ^ 32 → slice_cmp nat_cmp (to_be_bytes w32 a) (to_be_bytes w32 b) ≡ nat_cmp a b
 four_cmp a b low high =

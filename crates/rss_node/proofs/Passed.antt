@@ -3,7 +3,7 @@ use Rattle.std.proofs.Common.{◌≡◌, ℕ, Bool, true, false, List, sym, ◌�
 use Rattle.std.specs.Ordering.{nat_cmp}
 use Rattle.std.specs.Cmp.Lexicographic.{slice_cmp}
 use Rattle.std.specs.declared.cmp.Ordering.TheVariants.{Less, Equal, Greater}
-use Rattle.rss_levels.proofs.Order.{less_asym, equal_never, greater_less}
+use Rattle.rss_base.proofs.Entries.{less_asym, equal_never, greater_less}
 use Rattle.rss_node.specs.Nodes.{IsPassed}
 
 pub passed_less : (beyond : Bool) (pair target : List ℕ) → Less ≡ slice_cmp nat_cmp pair target → IsPassed beyond pair target

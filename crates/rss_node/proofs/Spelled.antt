@@ -7,7 +7,7 @@ use Rattle.std.proofs.lemmas.List.{take-append-drop, take_at, drop_at}
 use Rattle.std.proofs.lemmas.List.Elements.{All-head, All-tail}
 use Rattle.rss_base.specs.LogRecords.{tid_bytes}
 use Rattle.rss_base.specs.Nodes.{NodeEntry, Node, NodesOf, IsNodeEntry, node_entry_spelled, next_spelled, node_spelled, IsNodePage as IsBasePage}
-use Rattle.rss_levels.specs.Entries.{Entry}
+use Rattle.rss_base.specs.Entries.{Entry}
 use Rattle.rss_node.specs.Nodes.{part, entry_from, entries_from, count_of, IsBytes, AreSpelled, Spells}
 use Rattle.rss_node.specs.Pairs.{pair_bytes, entry_of, next_number, view_of}
 use Rattle.rss_node.proofs.Headers.{has_room}

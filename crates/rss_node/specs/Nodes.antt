@@ -2,8 +2,8 @@
 use Rattle.std.specs.Prelude.{◌≡◌, ℕ, suc, zero, ◌+◌, ◌<◌, ◌≤◌, Bool, true, false, List, [], ◌∷◌, ◌++◌, length, take, drop, replicate, get_or, slice_index, slice_index_or}
 use Rattle.std.specs.Int.{w16, w32, to_be_bytes, from_be_bytes}
 use Rattle.rss_base.specs.Sizes.{page_bytes}
-use Rattle.rss_levels.specs.Entries.{Entry, IsLess, capacity}
-use Rattle.rss_levels.specs.Rows.{no_page}
+use Rattle.rss_base.specs.Entries.{Entry, IsLess, no_page}
+use Rattle.rss_base.specs.Nodes.{node_most}
 use Rattle.rss_node.specs.declared.pair.Nodes.{Nodes}
 
 -- what a node says
@@ -65,7 +65,7 @@ pub record IsNodePage (width : ℕ) (page : List ℕ) : Type 0 where
   pub mark : slice_index page 0 ≡ 3
   pub gap : part page 10 2 ≡ replicate 2 0
   pub rest : part page 16 16 ≡ replicate 16 0
-  pub few : count_of page ≤ capacity width
+  pub few : count_of page ≤ node_most width
   pub header : IsBytes (part page 3 13)
   pub entries : AreSpelled width (count_of page) (drop 32 page)
 
@@ -126,7 +126,7 @@ header_bytes of level number = 3 ∷ of.segment ∷ of.image ∷ level ∷ (to_b
 
 -- the bytes are those of a node of this level and number
 pub record HasForm (of : Nodes) (level number : ℕ) (page : List ℕ) : Type 0 where
-  pub few : count_of page ≤ capacity of.width
+  pub few : count_of page ≤ node_most of.width
   pub front : part page 0 8 ≡ 3 ∷ of.segment ∷ of.image ∷ level ∷ to_be_bytes w32 number
   pub gap : part page 10 2 ≡ replicate 2 0
   pub rest : part page 16 16 ≡ replicate 16 0

@@ -4,8 +4,7 @@ use Rattle.std.specs.Int.{w16, w32, from_be_bytes}
 use Rattle.rss_base.specs.Sizes.{page_entries}
 use Rattle.rss_base.specs.Nodes.{NodeEntry, Node, NodesOf}
 use Rattle.rss_base.specs.Trees.{Pair}
-use Rattle.rss_levels.specs.Entries.{Entry}
-use Rattle.rss_levels.specs.Rows.{no_page}
+use Rattle.rss_base.specs.Entries.{Entry, no_page}
 use Rattle.rss_node.specs.Nodes.{NodeView, IsBytes, part}
 use Rattle.rss_base.specs.LogRecords.{tid_bytes}
 use Rattle.rss_base.specs.declared.tid.Tid.{Tid}
@@ -13,11 +12,6 @@ use Rattle.rss_base.specs.declared.tid.Tid.{Tid}
 -- those of the key, and those of the identifier
 abbrev pub pair_bytes : List ℕ → Tid → List ℕ
 pair_bytes key tid = key ++ tid_bytes tid
-
--- four bytes spell its page, and two its slot
-pub record IsSpelledTid (tid : Tid) : Type 0 where
-  pub page : tid.page < 2 ^ 32
-  pub slot : tid.slot < 2 ^ 16
 
 -- as long as a pair of keys of this width is, with bytes behind the key
 pub record IsWhole (width : ℕ) (pair : List ℕ) : Type 0 where

@@ -6,7 +6,8 @@ ghost use Rattle.rss_base.specs.Trees.{Pair, pair_cmp};
 ghost use Rattle.rss_base.specs.Nodes.{Node, NodesOf, IsNodePage};
 ghost use Rattle.rss_levels.specs.Entries.{Each};
 ghost use Rattle.rss_node.specs.Nodes.{NodeView, Spells};
-ghost use Rattle.rss_node.specs.Pairs.{IsSpelledTid, IsWhole, pair_bytes, pair_from, key_from, tid_from};
+ghost use Rattle.rss_base.specs.Tids.{IsSpelledTid};
+ghost use Rattle.rss_node.specs.Pairs.{IsWhole, pair_bytes, pair_from, key_from, tid_from};
 ghost use Rattle.rss_node.specs.Pairs.{HasSlot, base_node, nodes_of_node, view_of};
 
 /// Pairs are ordered by their bytes as by their keys, and then by their identifiers.

@@ -2,7 +2,8 @@
 ghost use Rattle.std.specs.Prelude.{◌≡◌, ◌↔◌, IsTrue, ◌+◌, ◌*◌, ◌-◌, ◌<◌, ◌≤◌, [], ◌∷◌, List, ℕ, length, take, drop, slice_index, IfSome, IfNone, OnSome, true, false};
 ghost use Rattle.std.specs.Ordering.{nat_cmp};
 ghost use Rattle.std.specs.Cmp.Lexicographic.{slice_cmp};
-ghost use Rattle.rss_levels.specs.Entries.{Entry, capacity};
+ghost use Rattle.rss_base.specs.Entries.{Entry};
+ghost use Rattle.rss_base.specs.Nodes.{node_most};
 ghost use Rattle.rss_node.specs.Nodes.{NodeView, IsBytes, entries_from, spliced, with_entries, with_next, entry_at, Spells, IsPassed, AreNodes, IsNodeOf, blank_node, header_bytes, HasForm};
 
 use crate::bytes::{is_part, part_of, put_and_move, u16_at};
@@ -94,7 +95,7 @@ impl Node {
     /// How many entries there are.
     pub fn count(&self) -> usize
         ensures count { result ≡ length self.now.entries }
-        ensures few { length self.now.entries ≤ capacity self.now.width }
+        ensures few { length self.now.entries ≤ node_most self.now.width }
     {
         usize::from(u16_at(&self.page, 8))
     }
@@ -175,7 +176,7 @@ impl Node {
     /// Puts an entry from a place on, in place of so many that are there.
     pub fn put(&mut self, at: usize, removed: usize, pair: &Pair, child: u32)
         requires within { at + removed ≤ length self.old.entries }
-        requires room { length self.old.entries + 1 ≤ capacity self.old.width + removed }
+        requires room { length self.old.entries + 1 ≤ node_most self.old.width + removed }
         requires long { length pair.now ≡ self.old.width + 6 }
         ensures { self.new ≡ with_entries self.old (spliced self.old.entries at removed
             (record { pair = pair.now; child = child } ∷ [])) }
@@ -200,7 +201,7 @@ impl Node {
         requires within { at ≤ length self.old.entries }
         requires there { start + count ≤ length from.now.entries }
         requires width { from.now.width ≡ self.old.width }
-        requires room { length self.old.entries + count ≤ capacity self.old.width }
+        requires room { length self.old.entries + count ≤ node_most self.old.width }
         ensures { self.new ≡ with_entries self.old (spliced self.old.entries at 0
             (take count (drop start from.now.entries))) }
     {
@@ -215,7 +216,7 @@ impl Node {
     fn splice(&mut self, at: usize, removed: usize, bytes: &[u8], count: usize)
         requires within { at + removed ≤ length self.old.entries }
         requires bytes { length bytes.now ≡ count * (self.old.width + 10) }
-        requires room { length self.old.entries + count ≤ capacity self.old.width + removed }
+        requires room { length self.old.entries + count ≤ node_most self.old.width + removed }
         ensures { self.new ≡ with_entries self.old (spliced self.old.entries at removed
             (entries_from self.old.width count bytes.now)) }
     {

@@ -19,7 +19,7 @@ use Rattle.rss_base.specs.declared.value.FieldForm.{FieldForm}
 use Rattle.rss_base.specs.declared.value.FieldKind.{FieldKind}
 use Rattle.rss_base.specs.declared.value.FieldKind.TheVariants.{Int as IntField, Text as TextField}
 use Rattle.rss_base.specs.declared.value.Value.{Value}
-use Rattle.rss_node.specs.Pairs.{IsSpelledTid}
+use Rattle.rss_base.specs.Tids.{IsSpelledTid}
 use Rattle.rss_value.proofs.Choosing.{key_made}
 use Rattle.rss_model.specs.Needs.{need}
 use Rattle.rss_model.specs.ReplyText.{answer_line, item_text, values_text}

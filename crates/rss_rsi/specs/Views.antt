@@ -13,7 +13,7 @@ use Rattle.rss_base.specs.declared.relation.RelationEntry.{RelationEntry}
 use Rattle.rss_base.specs.declared.tid.Tid.{Tid}
 use Rattle.rss_base.specs.declared.value.FieldForm.{FieldForm}
 use Rattle.rss_base.specs.declared.value.Value.{Value}
-use Rattle.rss_node.specs.Pairs.{IsSpelledTid}
+use Rattle.rss_base.specs.Tids.{IsSpelledTid}
 use Rattle.rss_tuple.specs.Placing.{IsChosen}
 use Rattle.rss_catalog.specs.Catalogs.{HasNoLesser}
 use Rattle.rss_members.specs.Calls.{HasForm}

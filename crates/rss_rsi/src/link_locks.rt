@@ -6,7 +6,7 @@ ghost use Rattle.rss_base.specs.declared.item.Item.TheVariants.{Chain};
 ghost use Rattle.rss_base.specs.declared.need.Mode.TheVariants.{X};
 ghost use Rattle.rss_base.specs.declared.refusal.Kind.TheVariants.{Link as LinkKind};
 ghost use Rattle.rss_members.specs.Calls.{HasForm};
-ghost use Rattle.rss_node.specs.Pairs.{IsSpelledTid};
+ghost use Rattle.rss_base.specs.Tids.{IsSpelledTid};
 ghost use Rattle.rss_model.specs.Needs.{need, connect_needs, link_scan_needs};
 ghost use Rattle.rss_rsi.specs.Locking.{AreSayable, IsSayable, Lists};
 ghost use Rattle.rss_rsi.specs.Linking.{ListsBehind, ListsPlaced, child_list, chain_list, upper_list};

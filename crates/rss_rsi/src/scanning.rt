@@ -8,7 +8,7 @@ ghost use Rattle.rss_base.specs.declared.refusal.Kind.TheVariants.{Scan as ScanK
 ghost use Rattle.rss_base.specs.declared.refusal.Refusal.TheVariants.{NoSuch};
 ghost use Rattle.rss_members.specs.Calls.{HasForm};
 ghost use Rattle.rss_stored.specs.Calls.{calls_most};
-ghost use Rattle.rss_node.specs.Pairs.{IsSpelledTid};
+ghost use Rattle.rss_base.specs.Tids.{IsSpelledTid};
 ghost use Rattle.rss_rsi.specs.Looking.{EndsEach};
 ghost use Rattle.rss_rsi.specs.Placing.{MayCost};
 ghost use Rattle.rss_rsi.specs.Linking.{TestEnds};

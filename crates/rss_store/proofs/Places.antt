@@ -6,7 +6,8 @@ use Rattle.std.proofs.Math.Nat.{mod-lt}
 use Rattle.std.proofs.lemmas.Bool.{and_parts, leb-true, cond-false, false_from_ne_true}
 use Rattle.rss_base.specs.DiskRule.{Disk, Pages, page, Leaves, SameOff, IsAt, IsWithin}
 use Rattle.rss_base.specs.Layout.{map_pages, map_at, log_at, slots_at, selected, selected_by, root_page, device_pages, IsWellFormed}
-use Rattle.rss_base.specs.LogPages.{IsPiecePage, IsLogPage, IsNewPiece, HasRoom}
+use Rattle.rss_base.proofs.LogPages.{IsLogPage}
+use Rattle.rss_base.specs.LogPages.{IsPiecePage, IsNewPiece, HasRoom}
 use Rattle.rss_base.specs.LogRecords.{Parses}
 use Rattle.rss_base.specs.Listings.{HoldsListing}
 use Rattle.rss_base.specs.PageMap.{IsMap}

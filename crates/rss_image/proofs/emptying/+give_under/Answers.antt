@@ -2,7 +2,7 @@ use Rattle.std.proofs.Common.{◌≡◌, ℕ, ◌+◌, ◌-◌, ◌*◌, ◌≤�
 use Rattle.std.proofs.Math.Logic.{∥∥₁_elim, ∥∥₁_map}
 use Rattle.std.proofs.Math.Bool.{Bool-set}
 use Rattle.rss_base.proofs.Steps.{then, then_call, fails, widens, within}
-use Rattle.rss_levels.specs.Entries.{capacity}
+use Rattle.rss_base.specs.Nodes.{node_most}
 use Rattle.rss_node.specs.Nodes.{entry_at}
 use Rattle.rss_image.specs.Emptied.{inner_most, HasUnder, GivesUnder, Gives}
 use Rattle.rss_image.proofs.Calls.{keeps_none, held_is_mapped}
@@ -56,7 +56,7 @@ pub returns-in_err-give_under-clause-did : goal.returns-in_err-give_under-clause
 returns-in_err-give_under-clause-did g t c =
     let m : ℕ = inner_most c.args.of.width (c.args.level - 1) in
     let up = inner_up c.args.of.width c.args.level (omega arith) in
-    let few : length c.in_ok-node.node.entries ≤ capacity c.args.of.width = subst (λ (w : ℕ). length c.in_ok-node.node.entries ≤ capacity w) c.in_ok-node.ensures.is.width c.count-at-end.ensures.few in
+    let few : length c.in_ok-node.node.entries ≤ node_most c.args.of.width = subst (λ (w : ℕ). length c.in_ok-node.node.entries ≤ node_most w) c.in_ok-node.ensures.is.width c.count-at-end.ensures.few in
     let all = times_up c.args.of.width (c.loop-at.at + 1) m (omega (arith, few, c.loop-at-test.true, c.count-at-end.ensures.count)) in
     let next : (c.loop-at.at + 1) * m ≡ c.loop-at.at * m + m = omega arith in
     fails _ c.from_residual-in_err-give_under.ensures.1 (λ key there. there) (omega (arith, up, all, next)) (omega (arith, up, all, next)) (then_call c.loop-at.invariant.step c.in_err-give_under.ensures.did)
@@ -111,7 +111,7 @@ pub returns-clause-did : goal.returns-clause-did
 returns-clause-did g t c =
     let m : ℕ = inner_most c.args.of.width (c.args.level - 1) in
     let up = inner_up c.args.of.width c.args.level (omega arith) in
-    let few : length c.in_ok-node.node.entries ≤ capacity c.args.of.width = subst (λ (w : ℕ). length c.in_ok-node.node.entries ≤ capacity w) c.in_ok-node.ensures.is.width c.count-at-end.ensures.few in
+    let few : length c.in_ok-node.node.entries ≤ node_most c.args.of.width = subst (λ (w : ℕ). length c.in_ok-node.node.entries ≤ node_most w) c.in_ok-node.ensures.is.width c.count-at-end.ensures.few in
     let all = times_up c.args.of.width c.loop-at.at m (omega (arith, few, c.loop-at.invariant.low, c.count-at-end.ensures.count)) in
     widens (λ key there. there) (omega (arith, up, all)) (omega (arith, up, all)) (then_call c.loop-at.invariant.step c.give_page-2.ensures.did)
 

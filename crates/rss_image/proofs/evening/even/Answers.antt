@@ -3,7 +3,8 @@ use Rattle.std.proofs.lemmas.List.{length-append}
 use Rattle.std.proofs.Math.Logic.{∥∥₁_elim, ∥∥₁_map}
 use mathlib.Core.HLevel.{⊥_prop, ¬_prop}
 use Rattle.rss_base.proofs.Steps.{then, then_call, done, fails, widens, untouched}
-use Rattle.rss_levels.specs.Entries.{Entry, capacity}
+use Rattle.rss_base.specs.Entries.{Entry}
+use Rattle.rss_base.specs.Nodes.{node_most}
 use Rattle.rss_levels.specs.Rows.{Cells}
 use Rattle.rss_node.specs.Nodes.{NodeView, entry_at}
 use Rattle.rss_image.specs.Trees.{cells_of}
@@ -136,8 +137,8 @@ returns-clause-evened g c = λ told left right next are.
     let second = c.in_ok-first.ensures.pair ∙ ap (λ (n : NodeView). (entry_at (drop (length (c.in_ok-left.left.entries ++ n.entries) / 2) (c.in_ok-left.left.entries ++ n.entries)) 0).pair) c.name_first.ensures in
     shared_evens of (cells_of of old.held) c.args.level c.args.number c.args.other c.args.pair.now left right next are c.in_ok-left.left c.in_ok-right.right (c.in_ok-left.ensures.holds told)
     (was_holding of c.args.level c.args.other c.in_ok-right.right.next c.in_ok-right.right.entries old one same (c.in_ok-right.ensures.holds told_one)) (cells_of of new.held) c.in_ok-first.first
-    (subst (λ (w : ℕ). length c.in_ok-left.left.entries ≤ capacity w) c.in_ok-left.ensures.is.width c.count-count.ensures.few)
-    (subst (λ (w : ℕ). length c.in_ok-right.right.entries ≤ capacity w) c.in_ok-right.ensures.is.width c.count-more.ensures.few)
+    (subst (λ (w : ℕ). length c.in_ok-left.left.entries ≤ node_most w) c.in_ok-left.ensures.is.width c.count-count.ensures.few)
+    (subst (λ (w : ℕ). length c.in_ok-right.right.entries ≤ node_most w) c.in_ok-right.ensures.is.width c.count-more.ensures.few)
     (omega (arith, c.count-count.ensures.count, c.count-more.ensures.count, c.capacity.ensures, c.if-count-more.false))
     (subst (λ (cs : Cells). Shared of c.args.level c.args.number c.args.other c.in_ok-left.left.next c.in_ok-right.right.next own cs (cells_of of new.held)) same_two made)
     second

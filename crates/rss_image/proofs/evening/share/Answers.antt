@@ -1,5 +1,5 @@
 use Rattle.std.proofs.Common.{List, ap, ◌∙◌}
-use Rattle.rss_levels.specs.Entries.{Entry}
+use Rattle.rss_base.specs.Entries.{Entry}
 use Rattle.rss_node.specs.Nodes.{with_entries}
 use Rattle.rss_image.proofs.Evened.{share_left, share_right}
 use Rattle.rss_image.proofs.evening.share.Goals as goal

@@ -1,5 +1,5 @@
 use Rattle.std.proofs.Common.{◌-◌, arith, sym, subst, ℕ, List}
-use Rattle.rss_levels.specs.Entries.{IsLess}
+use Rattle.rss_base.specs.Entries.{IsLess}
 use Rattle.rss_levels.proofs.Spotted.{at_place}
 use Rattle.rss_image.specs.Fitting.{IsUnderLimit}
 use Rattle.rss_image.proofs.Passing.{rising_at}

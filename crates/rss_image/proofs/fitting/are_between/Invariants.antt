@@ -1,5 +1,5 @@
 use Rattle.std.proofs.Common.{ℕ, suc, ◌<◌}
-use Rattle.rss_levels.specs.Entries.{IsLess}
+use Rattle.rss_base.specs.Entries.{IsLess}
 use Rattle.rss_node.specs.Nodes.{entry_at}
 use Rattle.rss_image.proofs.fitting.are_between.Given as goal
 

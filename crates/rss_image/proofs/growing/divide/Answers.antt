@@ -4,7 +4,8 @@ use Rattle.std.specs.Prelude.{is_some}
 use Rattle.rss_base.specs.Paged.{Mapped, page_key}
 use Rattle.rss_base.specs.declared.key.Space.TheVariants.{Image}
 use Rattle.rss_base.proofs.Steps.{then, then_call, done, fails, widens}
-use Rattle.rss_levels.specs.Entries.{Entry, least, capacity}
+use Rattle.rss_base.specs.Entries.{Entry}
+use Rattle.rss_base.specs.Nodes.{node_least, node_most}
 use Rattle.rss_levels.specs.Rows.{stored}
 use Rattle.rss_node.specs.Nodes.{NodeView, with_entries, with_next, entry_at}
 use Rattle.rss_image.specs.Grown.{put_at, left_next, right_next}
@@ -31,12 +32,12 @@ returns-clause-halved g c = λ told.
     let node = c.args.node.now in
     let e : Entry = record { pair = c.args.pair.now; child = c.args.child } in
     let all : List Entry = put_at node.entries c.args.at e in
-    let half : ℕ = least node.width + 1 in
+    let half : ℕ = node_least node.width + 1 in
     let width : node.width ≡ of.width = c.requires.is.width in
-    let same : least node.width ≡ least of.width = ap least width in
-    let capacity_is : capacity node.width ≡ capacity of.width = ap capacity width in
+    let same : node_least node.width ≡ node_least of.width = ap node_least width in
+    let capacity_is : node_most node.width ≡ node_most of.width = ap node_most width in
     let room = many of.width c.requires.of.narrow in
-    let long : length all ≡ suc (capacity of.width) = long_put node.entries c.args.at e c.requires.at ∙ ap (λ (n : ℕ). suc n) c.requires.full in
+    let long : length all ≡ suc (node_most of.width) = long_put node.entries c.args.at e c.requires.at ∙ ap (λ (n : ℕ). suc n) c.requires.full in
     let left_long : length (take half all) ≡ half = length-take-le half all (omega (arith, long, same)) in
     let right_long = length-drop half all in
     let left_is = c.settle.ensures.left ∙ ap (λ (n : NodeView). with_next n (left_next c.args.level n.next c.in_ok-other.other)) c.halve.ensures.left in
@@ -76,7 +77,7 @@ returns-clause-did g c = widens (λ key there. there) (omega arith) (omega arith
 
 pub returns-clause-long : goal.returns-clause-long
 returns-clause-long g c =
-    let half : ℕ = least c.args.node.now.width + 1 in
+    let half : ℕ = node_least c.args.node.now.width + 1 in
     let all : List Entry = put_at c.args.node.now.entries c.args.at (record { pair = c.args.pair.now; child = c.args.child }) in
     let right_width : c.halve.new.right.width ≡ c.args.of.width = ap (λ (n : NodeView). n.width) (c.halve.ensures.right ∙ ap (λ (n : NodeView). with_entries n (drop half all)) c.blank-right.ensures) in
     c.pair-middle.ensures.long ∙ ap (λ (n : ℕ). n + 6) right_width

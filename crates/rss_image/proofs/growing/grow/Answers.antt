@@ -1,5 +1,5 @@
 use Rattle.std.proofs.Common.{◌≡◌, List, ◌∙◌, ap, subst, arith}
-use Rattle.rss_levels.specs.Entries.{Entry}
+use Rattle.rss_base.specs.Entries.{Entry}
 use Rattle.rss_node.specs.Nodes.{NodeView, with_entries}
 use Rattle.rss_image.specs.Grown.{put_at}
 use Rattle.rss_image.specs.Trees.{HoldsNode}

@@ -1,5 +1,5 @@
 use Rattle.std.proofs.Common.{ℕ, ◌/◌, ◌-◌, List, [], ◌∷◌, ap, ◌∙◌}
-use Rattle.rss_levels.specs.Entries.{Entry}
+use Rattle.rss_base.specs.Entries.{Entry}
 use Rattle.rss_node.specs.Nodes.{NodeView, with_entries, spliced}
 use Rattle.rss_image.proofs.Halves.{left_low, right_low, left_high, right_high}
 use Rattle.rss_image.proofs.halving.halve.Goals as goal

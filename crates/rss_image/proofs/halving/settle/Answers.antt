@@ -1,5 +1,6 @@
 use Rattle.std.proofs.Common.{◌≡◌, ◌<◌, ℕ, List, [], ◌∷◌, ap, sym, ◌∙◌, arith}
-use Rattle.rss_levels.specs.Entries.{Entry, zeros}
+use Rattle.rss_base.specs.Entries.{Entry}
+use Rattle.rss_levels.specs.Entries.{zeros}
 use Rattle.rss_levels.specs.Rows.{stored}
 use Rattle.rss_node.specs.Nodes.{with_entries, with_next, spliced}
 use Rattle.rss_image.specs.Grown.{right_next}

@@ -5,7 +5,7 @@ use Rattle.std.proofs.Math.Bridge.{le_prop}
 use mathlib.Core.HLevel.{⊥_prop}
 use Rattle.rss_base.proofs.Steps.{then, then_call, done, fails, widens, untouched, all_held}
 use Rattle.rss_base.specs.Paged.{Held}
-use Rattle.rss_levels.specs.Entries.{Entry}
+use Rattle.rss_base.specs.Entries.{Entry}
 use Rattle.rss_levels.specs.Rows.{Cells, HoldsAt}
 use Rattle.rss_node.specs.Nodes.{IsPassed}
 use Rattle.rss_image.specs.Trees.{cells_of, spells}

@@ -6,7 +6,7 @@ use Rattle.rss_base.specs.Paged.{Held}
 use Rattle.rss_base.specs.Steps.{PagesCall, pages_in}
 use Rattle.rss_base.specs.declared.key.Space.TheVariants.{Image}
 use Rattle.rss_base.proofs.Steps.{then, then_call, done, fails, widens, untouched, all_held}
-use Rattle.rss_levels.specs.Entries.{least}
+use Rattle.rss_base.specs.Nodes.{node_least}
 use Rattle.rss_levels.specs.Rows.{Cells}
 use Rattle.rss_levels.specs.Removes.{Removes}
 use Rattle.rss_levels.proofs.Spotted.{at_place}
@@ -67,7 +67,7 @@ remove_in-requires g t c = λ κs lives. (
             let step = c.in_ok-node.ensures.did.step in
             let told = step.passes.leaves.told.1 told_one in
             let wide = many of.width c.requires.of.narrow in
-            let full : 2 ≤ least of.width = omega (arith, wide) in
+            let full : 2 ≤ node_least of.width = omega (arith, wide) in
             ∥∥₁_map (c.requires.there told) (λ given.
             let may = may_below of old.held c.args.level c.args.number c.args.pair.now given c.in_ok-node.node (c.in_ok-node.ensures.holds told) c.place-at.result (omega arith) (omega arith) c.place-at.ensures.within (c.place-at.ensures.before (omega arith)) c.place-at.ensures.here full in
             subst (λ (h : Held). MayRemove of h (c.args.level - 1) c.child-child.result c.args.pair.now) (sym (all_held step told))
@@ -92,7 +92,7 @@ mend-requires-clause-there g t c = λ told_two.
     let same : one ≡ old = keeps_none of (g.P.Pages.view c.args.pages.now) (g.P.Pages.view c.read_node.new.pages) step told in
     ∥∥₁_map (c.requires.there told) (λ may.
     let wide = many of.width c.requires.of.narrow in
-    let full : 2 ≤ least of.width = omega (arith, wide) in
+    let full : 2 ≤ node_least of.width = omega (arith, wide) in
     let inner : 0 < c.args.level = omega arith in
     let does = subst (λ (n : ℕ). RemovedFrom of old (c.args.level - 1) n c.args.pair.now two c.in_ok-left.left) c.child-child.ensures (subst (λ (cs : Cells). RemovedFrom of cs (c.args.level - 1) c.child-child.result c.args.pair.now two c.in_ok-left.left) same (c.in_ok-left.ensures.removed told_one)) in
     may_mend of old c.args.level c.args.number c.args.pair.now may.pairs may.spot c.in_ok-node.node (c.in_ok-node.ensures.holds told) c.place-at.result inner (omega arith) c.place-at.ensures.within (c.place-at.ensures.before (omega arith)) c.place-at.ensures.here full two c.in_ok-left.left does (may.branches inner))
@@ -111,7 +111,7 @@ returns-clause-removed g t c = λ told pairs spot.
     let told_two = c.in_ok-left.ensures.did.step.passes.leaves.told.0 told_one in
     let same : one ≡ old = keeps_none of (g.P.Pages.view c.args.pages.now) (g.P.Pages.view c.read_node.new.pages) step told in
     let wide = many of.width c.requires.of.narrow in
-    let full : 2 ≤ least of.width = omega (arith, wide) in
+    let full : 2 ≤ node_least of.width = omega (arith, wide) in
     let inner : 0 < c.args.level = omega arith in
     let some : 0 < c.place-at.result = omega arith in
     let does = subst (λ (n : ℕ). RemovedFrom of old (c.args.level - 1) n c.args.pair.now two c.in_ok-left.left) c.child-child.ensures (subst (λ (cs : Cells). RemovedFrom of cs (c.args.level - 1) c.child-child.result c.args.pair.now two c.in_ok-left.left) same (c.in_ok-left.ensures.removed told_one)) in

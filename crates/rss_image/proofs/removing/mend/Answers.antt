@@ -3,8 +3,9 @@ use Rattle.std.proofs.Math.Logic.{∥∥₁_elim, ∥∥₁_map}
 use Rattle.std.proofs.Math.Bool.{Bool-set}
 use mathlib.Core.HLevel.{⊥_prop}
 use Rattle.rss_base.proofs.Steps.{rests, then_call, widens}
-use Rattle.rss_levels.specs.Entries.{Entry, least}
-use Rattle.rss_levels.specs.Rows.{first, no_page}
+use Rattle.rss_base.specs.Entries.{Entry, no_page}
+use Rattle.rss_base.specs.Nodes.{node_least}
+use Rattle.rss_levels.specs.Rows.{first}
 use Rattle.rss_levels.proofs.Spotted.{stored_long}
 use Rattle.rss_base.specs.Paged.{page_key}
 use Rattle.rss_base.specs.declared.key.Space.TheVariants.{Image}
@@ -31,7 +32,7 @@ even-requires-clause-there g c = λ told.
     let low : suc at < length own = elim c.if-place-count.branch [ then-place-count w ↦ omega (arith, w.at-is, w.if-place-count.true, c.count-count.ensures.count) | else-place-count w ↦ omega (arith, w.at-is, c.count-count.ensures.count, c.if-count-lt2.false) ] in
     let wide = many of.width c.requires.of.narrow in
     let next : at + 1 ≡ suc at = omega arith in
-    let some : 0 < least of.width = omega (arith, wide) in
+    let some : 0 < node_least of.width = omega (arith, wide) in
     let both = two of (cells_of of old.held) c.args.level c.args.number c.args.place own may.start may.pairs may.front may.back may.lower may.entries may.rows may.height may.own_is at (at + 1) next near low some in
     record {
       left = both.left;
@@ -53,7 +54,7 @@ write_node-requires-clause-mapped g c = λ told_mid.
     let low : suc at < length own = elim c.if-place-count.branch [ then-place-count w ↦ omega (arith, w.at-is, w.if-place-count.true, c.count-count.ensures.count) | else-place-count w ↦ omega (arith, w.at-is, c.count-count.ensures.count, c.if-count-lt2.false) ] in
     let wide = many of.width c.requires.of.narrow in
     let next : at + 1 ≡ suc at = omega arith in
-    let some : 0 < least of.width = omega (arith, wide) in
+    let some : 0 < node_least of.width = omega (arith, wide) in
     let both = two of (cells_of of old.held) c.args.level c.args.number c.args.place own may.start may.pairs may.front may.back may.lower may.entries may.rows may.height may.own_is at (at + 1) next near low some in
     let are = mend_neighbours of (cells_of of old.held) c.args.level c.args.number c.args.place own may.start may.pairs may.front may.back may.lower may.entries may.rows may.height may.own_is at (at + 1) next near low some c.child-left.result c.child-right.result c.pair-pair.result c.child-left.ensures c.child-right.ensures c.pair-pair.ensures.pair in
     let ev = c.in_ok-even.ensures.evened told both.left both.right (first both.after no_page) are in
@@ -73,7 +74,7 @@ returns-clause-mended g c = on_done c.write_node.result (λ writes told start pa
     let low : suc at < length own = elim c.if-place-count.branch [ then-place-count w ↦ omega (arith, w.at-is, w.if-place-count.true, c.count-count.ensures.count) | else-place-count w ↦ omega (arith, w.at-is, c.count-count.ensures.count, c.if-count-lt2.false) ] in
     let wide = many of.width c.requires.of.narrow in
     let next : at + 1 ≡ suc at = omega arith in
-    let some : 0 < least of.width = omega (arith, wide) in
+    let some : 0 < node_least of.width = omega (arith, wide) in
     let both = two of (cells_of of old.held) c.args.level c.args.number c.args.place own start pairs front back lower entries rows height own_is at (at + 1) next near low some in
     let are = mend_neighbours of (cells_of of old.held) c.args.level c.args.number c.args.place own start pairs front back lower entries rows height own_is at (at + 1) next near low some c.child-left.result c.child-right.result c.pair-pair.result c.child-left.ensures c.child-right.ensures c.pair-pair.ensures.pair in
     let ev = c.in_ok-even.ensures.evened told both.left both.right (first both.after no_page) are in

@@ -1,6 +1,7 @@
 use Rattle.std.proofs.Common.{◌≡◌, ⊎_elim, ℕ, List, [], ◌∷◌, sym, ap, subst, ◌∙◌, arith, Some, None}
 use Rattle.rss_base.proofs.Steps.{then, then_call, done, fails, widens}
-use Rattle.rss_levels.specs.Entries.{Entry, zeros}
+use Rattle.rss_base.specs.Entries.{Entry}
+use Rattle.rss_levels.specs.Entries.{zeros}
 use Rattle.rss_node.specs.Nodes.{NodeView, with_entries, spliced, blank_node}
 use Rattle.rss_image.specs.Trees.{cells_of, HoldsNode}
 use Rattle.rss_image.proofs.rooting.add_root.Goals as goal

@@ -1,5 +1,5 @@
 use Rattle.std.proofs.Common.{◌-◌, ◌++◌, ◌∙◌, List, ap, sym, subst, arith, drop}
-use Rattle.rss_levels.specs.Entries.{Entry}
+use Rattle.rss_base.specs.Entries.{Entry}
 use Rattle.rss_levels.proofs.Spotted.{at_place}
 use Rattle.rss_image.specs.Checking.{AreSeen}
 use Rattle.rss_image.specs.declared.checking.Seen.{Seen}

@@ -1,5 +1,5 @@
 use Rattle.std.proofs.Common.{◌≡◌, ◌+◌, ◌≤◌, List, ◌++◌, length, drop}
-use Rattle.rss_levels.specs.Entries.{Entry}
+use Rattle.rss_base.specs.Entries.{Entry}
 use Rattle.rss_image.specs.Checking.{AreSeen}
 use Rattle.rss_image.proofs.checking.Seen.see_leaf.Given as goal
 

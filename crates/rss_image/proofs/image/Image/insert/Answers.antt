@@ -4,7 +4,7 @@ use Rattle.std.proofs.Math.Bridge.{le_prop}
 use mathlib.Core.HLevel.{⊥_prop}
 use Rattle.rss_image.proofs.Calls.{damage}
 use Rattle.rss_base.proofs.Steps.{rests, then, then_call, done, fails, widens}
-use Rattle.rss_levels.specs.Entries.{Entry}
+use Rattle.rss_base.specs.Entries.{Entry}
 use Rattle.rss_image.specs.Images.{nodes_of, MayPut, PutsPair}
 use Rattle.rss_image.specs.Inserted.{Inserted}
 use Rattle.rss_image.specs.declared.halving.Split.{Split}

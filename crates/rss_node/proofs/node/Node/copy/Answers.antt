@@ -1,5 +1,6 @@
 use Rattle.std.proofs.Common.{◌≡◌, ◌≤◌, ◌*◌, ◌+◌, ℕ, List, length, take, drop, ap, sym, ◌∙◌, arith, length-take-le, length-drop}
-use Rattle.rss_levels.specs.Entries.{Entry, capacity}
+use Rattle.rss_base.specs.Entries.{Entry}
+use Rattle.rss_base.specs.Nodes.{node_most}
 use Rattle.rss_node.specs.Nodes.{NodeView, part, count_of, with_entries, spliced, entries_from}
 use Rattle.rss_node.proofs.Codec.{length_entries, entries_part}
 use Rattle.rss_node.proofs.Headers.{has_room}
@@ -9,9 +10,9 @@ width_is : (view now : NodeView) → view ≡ now → view.width ≡ now.width
 width_is view now is = ap (λ (n : NodeView). n.width) is
 
 -- the bytes lie in the page
-inside : (width other old start count : ℕ) → other ≡ width → old ≤ capacity other → start + count ≤ old → 32 + start * (width + 10) + count * (width + 10) ≤ 4096
+inside : (width other old start count : ℕ) → other ≡ width → old ≤ node_most other → start + count ≤ old → 32 + start * (width + 10) + count * (width + 10) ≤ 4096
 inside width other old start count same few within =
-    let most : start + count ≤ capacity width = omega (arith, ap capacity same) in
+    let most : start + count ≤ node_most width = omega (arith, ap node_most same) in
     omega (arith, has_room width (start + count) most)
 
 pub part_of-bytes-requires : goal.part_of-bytes-requires

@@ -1,6 +1,6 @@
 use Rattle.std.proofs.Common.{◌≡◌, ℕ, List, ◌++◌, ap, ◌∙◌}
 use Rattle.std.specs.Int.{w32, to_be_bytes}
-use Rattle.rss_levels.specs.Entries.{Entry}
+use Rattle.rss_base.specs.Entries.{Entry}
 use Rattle.rss_node.specs.Nodes.{with_entries, spliced, entries_from}
 use Rattle.rss_node.proofs.Codec.{entry_spelled}
 use Rattle.rss_node.proofs.node.Node.put.Goals as goal

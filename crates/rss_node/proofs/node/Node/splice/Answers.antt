@@ -1,5 +1,5 @@
 use Rattle.std.proofs.Common.{◌≡◌, ◌≤◌, ◌+◌, ◌-◌, ℕ, List, length, drop, arith, sym, ap, ◌∙◌}
-use Rattle.rss_levels.specs.Entries.{capacity}
+use Rattle.rss_base.specs.Nodes.{node_most}
 use Rattle.rss_node.specs.Nodes.{NodeView, count_of, put, entries_from, spliced, with_entries}
 use Rattle.rss_node.proofs.Codec.{length_entries}
 use Rattle.rss_node.proofs.Headers.{IsSpliced, spliced_page, moves, grows}
@@ -25,7 +25,7 @@ is_spliced c =
     let old = c.count-old.result in
     let now : ℕ = old + c.args.count - c.args.removed in
     let long : old ≡ count_of c.self.inside.page = c.count-old.ensures.count ∙ sym (ap (λ (n : NodeView). length n.entries) c.self.view_is) ∙ length_entries c.self.inside.width (count_of c.self.inside.page) (drop 32 c.self.inside.page) in
-    let room : old + c.args.count ≤ capacity c.self.inside.width + c.args.removed = (let room = rw w at c.requires.room in rw c.count-old.ensures.count room) in
+    let room : old + c.args.count ≤ node_most c.self.inside.width + c.args.removed = (let room = rw w at c.requires.room in rw c.count-old.ensures.count room) in
     spliced_page c.self.inside.width c.args.at c.args.removed c.args.count now old c.self.inside.page c.args.bytes.now c.put_and_move.new.page c.put_bytes.new.page c.self.invariant.formed c.self.invariant.bytes long (omega (arith, c.requires.within, c.count-old.ensures.count)) (λ i. (c.type_inv.bytes i).fits) (rw w at c.requires.bytes) room (omega (arith, c.requires.within, c.count-old.ensures.count)) c.put_and_move.ensures (c.put_bytes.ensures ∙ ap (λ (l : List ℕ). put c.put_and_move.new.page 8 l) c.to_be_bytes.ensures)
 
 pub invariant_of-self : goal.invariant_of-self
