@@ -13,7 +13,7 @@ use Rattle.rss_node.proofs.Parts.{low_drop, low_take}
 use Rattle.rss_node.proofs.Codec.{length_entries}
 use Rattle.rss_node.specs.Nodes.{NodeView, node_from, count_of, Spells, IsNodePage, IsBytes, AreSpelled}
 use Rattle.rss_base.specs.Nodes.{NodesOf, IsNodeEntry, next_spelled, node_spelled, IsNodePage as IsBasePage}
-use Rattle.rss_levels.specs.Entries.{Each}
+use Rattle.std.specs.List.{AllByRecursion}
 use Rattle.rss_base.specs.LogRecords.{tid_bytes}
 use Rattle.rss_base.specs.Trees.{Pair, pair_cmp}
 use Rattle.std.specs.Ordering.{nat_cmp}
@@ -175,14 +175,14 @@ module _ (width : ℕ) (page : List ℕ) (formed : IsNodePage width page) where
     child = part_number bytes (width + 6) (low_within bytes width 10 6 4 few (omega arith)) (omega (arith, within));
   }
 
-  each_entry : (count : ℕ) (bytes : List ℕ) → AreSpelled width count bytes → count * (width + 10) ≤ length bytes → Each (HasSlot width) (entries_from width count bytes) → All (IsNodeEntry width) (map (node_entry width) (entries_from width count bytes))
+  each_entry : (count : ℕ) (bytes : List ℕ) → AreSpelled width count bytes → count * (width + 10) ≤ length bytes → AllByRecursion (HasSlot width) (entries_from width count bytes) → All (IsNodeEntry width) (map (node_entry width) (entries_from width count bytes))
   each_entry zero bytes few within slots = All-nil (IsNodeEntry width)
   each_entry (suc count) bytes few within slots =
       let first : width + 10 ≤ length bytes = omega arith in
       All-cons (IsNodeEntry width) (node_entry width (entry_from width bytes)) (map (node_entry width) (entries_from width count (drop (width + 10) bytes))) (entry_at_front bytes few.0 first slots.0)
       (each_entry count (drop (width + 10) bytes) few.1 (omega (arith, length-drop (width + 10) bytes)) slots.1)
 
-  pub is_base_page : Each (HasSlot width) said.entries → IsBasePage whose said.number page (base_node said)
+  pub is_base_page : AllByRecursion (HasSlot width) said.entries → IsBasePage whose said.number page (base_node said)
   is_base_page slots =
       let spelled : List ℕ = node_spelled whose said.number (base_node said) in
       let count : count_of page * (width + 10) ≤ 4064 = has_room width (count_of page) formed.few in
@@ -199,14 +199,14 @@ module _ (width : ℕ) (page : List ℕ) (formed : IsNodePage width page) where
       take_front [] ys = refl
       take_front (x ∷ xs) ys = ap (λ (l : List ℕ). x ∷ l) (take_front xs ys)
 
-pub base_page : (page : List ℕ) (node : NodeView) → Spells page node → Each (HasSlot node.width) node.entries → IsBasePage (nodes_of_node node) node.number page (base_node node)
+pub base_page : (page : List ℕ) (node : NodeView) → Spells page node → AllByRecursion (HasSlot node.width) node.entries → IsBasePage (nodes_of_node node) node.number page (base_node node)
 base_page page node spells slots =
     subst (λ (n : NodeView). IsBasePage (nodes_of_node n) n.number page (base_node n)) spells.says
-    (is_base_page node.width page spells.formed (subst (λ (n : NodeView). Each (HasSlot node.width) n.entries) (sym spells.says) slots))
+    (is_base_page node.width page spells.formed (subst (λ (n : NodeView). AllByRecursion (HasSlot node.width) n.entries) (sym spells.says) slots))
 
 -- ---- pairs
 
-whole_entries : (width count : ℕ) (bytes : List ℕ) → AreSpelled width count bytes → count * (width + 10) ≤ length bytes → Each (λ e. IsWhole width e.pair) (entries_from width count bytes)
+whole_entries : (width count : ℕ) (bytes : List ℕ) → AreSpelled width count bytes → count * (width + 10) ≤ length bytes → AllByRecursion (λ e. IsWhole width e.pair) (entries_from width count bytes)
 whole_entries width zero bytes low within = tt
 whole_entries width (suc count) bytes low within = (
   record { long = length-take-le (width + 6) bytes (omega (arith, within)); bytes = subst IsBytes (sym (front_part bytes (width + 6) width 6 (omega arith))) (low_front bytes width 10 6 low.0 (omega arith)) },
@@ -214,11 +214,11 @@ whole_entries width (suc count) bytes low within = (
 )
 
 -- the pairs of a node's entries are whole
-pub whole_page : (page : List ℕ) (node : NodeView) → Spells page node → Each (λ e. IsWhole node.width e.pair) node.entries
+pub whole_page : (page : List ℕ) (node : NodeView) → Spells page node → AllByRecursion (λ e. IsWhole node.width e.pair) node.entries
 whole_page page node spells =
     let formed = spells.formed in
     let count : count_of page * (node.width + 10) ≤ 4064 = has_room node.width (count_of page) formed.few in
-    subst (λ (n : NodeView). Each (λ e. IsWhole node.width e.pair) n.entries) spells.says
+    subst (λ (n : NodeView). AllByRecursion (λ e. IsWhole node.width e.pair) n.entries) spells.says
     (whole_entries node.width (count_of page) (drop 32 page) formed.entries (omega (arith, count, length-drop 32 page, formed.size)))
 
 -- a pair is the bytes of its key and of its identifier

@@ -6,7 +6,8 @@ use Rattle.std.proofs.Math.Nat.{mul-le-mul_right, div-mul-le_self}
 use Rattle.std.specs.Int.{w16, w32, to_be_bytes, from_be_bytes}
 use Rattle.rss_base.specs.Entries.{Entry}
 use Rattle.rss_base.specs.Nodes.{node_most}
-use Rattle.rss_node.specs.Nodes.{NodeView, part, put, entries_from, count_of, node_from, IsNodePage, spliced, with_entries}
+use Rattle.rss_node.specs.Nodes.{NodeView, part, put, entries_from, count_of, node_from, IsNodePage, IsOwnPage, spliced, with_entries}
+use Rattle.rss_node.proofs.Codec.{length_entries}
 use Rattle.rss_node.proofs.Parts.{before, part_kept, part_put, length-put, behind, low_append, low_take, low_drop, low_put, low_two, low_four}
 use Rattle.rss_node.specs.Nodes.{IsBytes, AreSpelled}
 use Rattle.std.proofs.lemmas.Nat.{from_be_bytes-to_be_bytes_4}
@@ -66,6 +67,20 @@ formed_kept width page page_now kept formed bytes size few = record {
 -- so many entries have room
 pub has_room : (width count : ℕ) → count ≤ node_most width → count * (width + 10) ≤ 4064
 has_room width count few = omega (arith, mul-le-mul_right (width + 10) few, div-mul-le_self 4064 (width + 10))
+
+-- a node has no more entries than that
+pub few_entries : {width : ℕ} {page : List ℕ} {node : NodeView} → node_from width page ≡ node → IsOwnPage width page → length node.entries ≤ node_most width
+few_entries {width = width} {page = page} is own =
+    let long = sym (ap (λ (n : NodeView). length n.entries) is) ∙ length_entries width (count_of page) (drop 32 page) in
+    rw long own.formed.few
+
+-- entries lie in the page
+pub entries_within : {width : ℕ} {page : List ℕ} {node : NodeView} (start count : ℕ) → node_from width page ≡ node → IsOwnPage width page → start + count ≤ length node.entries → 32 + start * (width + 10) + count * (width + 10) ≤ 4096
+entries_within {width = width} start count is own there =
+    let fits = has_room width (start + count) (omega (arith, few_entries is own, there)) in omega (arith, fits)
+
+pub entry_within : {width : ℕ} {page : List ℕ} {node : NodeView} (at : ℕ) → node_from width page ≡ node → IsOwnPage width page → at < length node.entries → 32 + at * (width + 10) + (width + 10) ≤ 4096
+entry_within at is own there = let fits = entries_within at 1 is own (omega (arith, there)) in omega (arith, fits)
 
 pub grows : (width a b : ℕ) → a ≤ b → a * (width + 10) ≤ b * (width + 10)
 grows width a b few = mul-le-mul_right (width + 10) few

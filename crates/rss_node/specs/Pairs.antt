@@ -1,5 +1,5 @@
 -- A pair as bytes.
-use Rattle.std.specs.Prelude.{◌≡◌, ℕ, List, ◌++◌, ◌<◌, ◌^◌, ◌+◌, ◌==◌, if◌then◌else◌, length, take, drop, map, Option, Some, None}
+use Rattle.std.specs.Prelude.{◌≡◌, ℕ, List, ◌++◌, ◌<◌, ◌+◌, ◌==◌, if◌then◌else◌, length, take, drop, map, Option, Some, None}
 use Rattle.std.specs.Int.{w16, w32, from_be_bytes}
 use Rattle.rss_base.specs.Sizes.{page_entries}
 use Rattle.rss_base.specs.Nodes.{NodeEntry, Node, NodesOf}

@@ -1,6 +1,5 @@
 // Edits of the bytes of a page.
 ghost use Rattle.std.specs.Prelude.{◌≡◌, ◌↔◌, IsTrue, ◌+◌, ◌-◌, ◌≤◌, ◌++◌, length, take, drop};
-ghost use Rattle.std.specs.Int.{w16, from_be_bytes};
 ghost use Rattle.rss_base.specs.Sizes.{page_bytes};
 ghost use Rattle.rss_node.specs.Nodes.{part};
 
@@ -17,16 +16,6 @@ pub(crate) fn put_and_move(page: &mut Page, at: usize, bytes: &[u8], from: usize
 {
     page.copy_within(from..end, at + bytes.len());
     put_bytes(page, at, bytes);
-}
-
-/// The number in the two bytes from a place on.
-pub(crate) fn u16_at(page: &Page, at: usize) -> u16
-    requires { at + 2 ≤ page_bytes }
-    ensures { result ≡ from_be_bytes w16 (part page.now at 2) }
-{
-    let mut bytes = [0u8; 2];
-    bytes.copy_from_slice(&page[at..at + 2]);
-    u16::from_be_bytes(bytes)
 }
 
 /// So many bytes from a place on.

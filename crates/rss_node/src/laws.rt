@@ -4,7 +4,7 @@ ghost use Rattle.std.specs.Ordering.{nat_cmp};
 ghost use Rattle.std.specs.Cmp.Lexicographic.{slice_cmp};
 ghost use Rattle.rss_base.specs.Trees.{Pair, pair_cmp};
 ghost use Rattle.rss_base.specs.Nodes.{Node, NodesOf, IsNodePage};
-ghost use Rattle.rss_levels.specs.Entries.{Each};
+ghost use Rattle.std.specs.List.{AllByRecursion};
 ghost use Rattle.rss_node.specs.Nodes.{NodeView, Spells};
 ghost use Rattle.rss_base.specs.Tids.{IsSpelledTid};
 ghost use Rattle.rss_node.specs.Pairs.{IsWhole, pair_bytes, pair_from, key_from, tid_from};
@@ -29,7 +29,7 @@ pub fn pairs_are_their_bytes()
 /// of its entries name entries that a page may have.
 pub fn pages_are_node_pages()
     ensures { (page : List ℕ) (node : NodeView) → Spells page node
-        → Each (HasSlot node.width) node.entries
+        → AllByRecursion (HasSlot node.width) node.entries
         → IsNodePage (nodes_of_node node) node.number page (base_node node) }
 {}
 

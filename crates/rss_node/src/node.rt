@@ -6,10 +6,12 @@ ghost use Rattle.rss_base.specs.Entries.{Entry};
 ghost use Rattle.rss_base.specs.Nodes.{node_most};
 ghost use Rattle.rss_node.specs.Nodes.{NodeView, IsBytes, entries_from, spliced, with_entries, with_next, entry_at, Spells, IsPassed, AreNodes, IsNodeOf, blank_node, header_bytes, HasForm};
 
-use crate::bytes::{is_part, part_of, put_and_move, u16_at};
+use crate::bytes::{is_part, part_of, put_and_move};
 use crate::pair::{Nodes, Pair};
-use rss_base::{BoundedBytes, PAGE_BYTES, Page, put_bytes, u32_at};
-use rss_levels::capacity;
+use rss_base::{
+    BoundedBytes, NODE_ENTRY_BYTES, NODE_HEADER, PAGE_BYTES, Page, node_most, put_bytes, put_u16,
+    put_u32, u16_at, u32_at,
+};
 use std::cmp::Ordering;
 use std::marker::Model;
 
@@ -30,11 +32,8 @@ impl Model for Node {
     ghost invariant = { λ a. IsOwnPage a.width a.page };
 }
 
-/// How many bytes the header has.
-const HEADER: usize = 32;
-
 /// The header of a node without entries.
-fn header(segment: u8, image: u8, level: u8, number: u32) -> [u8; HEADER]
+fn header(segment: u8, image: u8, level: u8, number: u32) -> [u8; NODE_HEADER]
     ensures spelled { result
         ≡ header_bytes (record { segment = segment; image = image; width = 0 }) level number }
     ensures bytes { IsBytes
@@ -53,7 +52,7 @@ fn has_form(page: &Page, of: Nodes, level: u8, number: u32) -> bool
 {
     let [a, b, c, d] = number.to_be_bytes();
     let front = [3, of.segment, of.image, level, a, b, c, d];
-    usize::from(u16_at(page, 8)) <= capacity(of.width)
+    usize::from(u16_at(page, 8)) <= node_most(of.width)
         && is_part(page, 0, &front)
         && is_part(page, 10, &[0, 0])
         && is_part(page, 16, &[0; 16])
@@ -124,7 +123,7 @@ impl Node {
     pub fn set_next(&mut self, next: u32)
         ensures { self.new ≡ with_next self.old next }
     {
-        put_bytes(&mut self.page, 12, &next.to_be_bytes());
+        put_u32(&mut self.page, 12, next);
     }
 
     /// The pair of an entry.
@@ -133,9 +132,8 @@ impl Node {
         ensures pair { result ≡ (entry_at self.now.entries at).pair }
         ensures long { length result ≡ self.now.width + 6 }
     {
-        let _count = self.count();
-        let size = self.width as usize + 10;
-        let start = HEADER + at * size;
+        let size = self.width as usize + NODE_ENTRY_BYTES;
+        let start = NODE_HEADER + at * size;
         let mut pair = Pair::new();
         pair.extend_from_slice(part_of(&self.page, start, size - 4));
         pair
@@ -146,9 +144,8 @@ impl Node {
         requires { at < length self.now.entries }
         ensures { result ≡ (entry_at self.now.entries at).child }
     {
-        let _count = self.count();
-        let size = self.width as usize + 10;
-        u32_at(&self.page, HEADER + at * size + (size - 4))
+        let size = self.width as usize + NODE_ENTRY_BYTES;
+        u32_at(&self.page, NODE_HEADER + at * size + (size - 4))
     }
 
     /// The first entry that isn't passed by a search for a pair, where entries are sorted.
@@ -192,7 +189,6 @@ impl Node {
         requires { at + removed ≤ length self.old.entries }
         ensures { self.new ≡ with_entries self.old (spliced self.old.entries at removed []) }
     {
-        let _count = self.count();
         self.splice(at, removed, &[], 0);
     }
 
@@ -205,9 +201,8 @@ impl Node {
         ensures { self.new ≡ with_entries self.old (spliced self.old.entries at 0
             (take count (drop start from.now.entries))) }
     {
-        let _count = from.count();
-        let size = self.width as usize + 10;
-        let first = HEADER + start * size;
+        let size = from.width as usize + NODE_ENTRY_BYTES;
+        let first = NODE_HEADER + start * size;
         let bytes = part_of(&from.page, first, count * size);
         self.splice(at, 0, bytes, count);
     }
@@ -216,22 +211,23 @@ impl Node {
     fn splice(&mut self, at: usize, removed: usize, bytes: &[u8], count: usize)
         requires within { at + removed ≤ length self.old.entries }
         requires bytes { length bytes.now ≡ count * (self.old.width + 10) }
-        requires room { length self.old.entries + count ≤ node_most self.old.width + removed }
+        requires room { 0 < count → length self.old.entries + count
+            ≤ node_most self.old.width + removed }
         ensures { self.new ≡ with_entries self.old (spliced self.old.entries at removed
             (entries_from self.old.width count bytes.now)) }
     {
-        let size = self.width as usize + 10;
+        let size = self.width as usize + NODE_ENTRY_BYTES;
         let old = self.count();
-        let from = HEADER + (at + removed) * size;
+        let from = NODE_HEADER + (at + removed) * size;
         put_and_move(
             &mut self.page,
-            HEADER + at * size,
+            NODE_HEADER + at * size,
             bytes,
             from,
-            HEADER + old * size,
+            NODE_HEADER + old * size,
         );
         let now = (old + count - removed) as u16;
-        put_bytes(&mut self.page, 8, &now.to_be_bytes());
+        put_u16(&mut self.page, 8, now);
     }
 }
 

@@ -1,43 +1,41 @@
-use Rattle.std.proofs.Common.{◌≡◌, ◌≤◌, ◌*◌, ◌+◌, ℕ, List, length, take, drop, ap, sym, ◌∙◌, arith, length-take-le, length-drop}
+use Rattle.std.proofs.Common.{◌≡◌, ◌*◌, ◌+◌, ℕ, List, length, take, drop, ap, sym, ◌∙◌, arith, length-take-le, length-drop}
 use Rattle.rss_base.specs.Entries.{Entry}
-use Rattle.rss_base.specs.Nodes.{node_most}
-use Rattle.rss_node.specs.Nodes.{NodeView, part, count_of, with_entries, spliced, entries_from}
+use Rattle.rss_node.specs.Nodes.{NodeView, count_of, with_entries, spliced, entries_from}
 use Rattle.rss_node.proofs.Codec.{length_entries, entries_part}
-use Rattle.rss_node.proofs.Headers.{has_room}
+use Rattle.rss_node.proofs.Headers.{entries_within, has_room}
 use Rattle.rss_node.proofs.node.Node.copy.Goals as goal
 
-width_is : (view now : NodeView) → view ≡ now → view.width ≡ now.width
-width_is view now is = ap (λ (n : NodeView). n.width) is
+pub overflow_mul-first : goal.overflow_mul-first
+overflow_mul-first c = omega (arith, entries_within c.args.start c.args.count c.from.view_is c.from.invariant c.requires.there)
 
--- the bytes lie in the page
-inside : (width other old start count : ℕ) → other ≡ width → old ≤ node_most other → start + count ≤ old → 32 + start * (width + 10) + count * (width + 10) ≤ 4096
-inside width other old start count same few within =
-    let most : start + count ≤ node_most width = omega (arith, ap node_most same) in
-    omega (arith, has_room width (start + count) most)
+pub overflow_add-first : goal.overflow_add-first
+overflow_add-first c = omega (arith, entries_within c.args.start c.args.count c.from.view_is c.from.invariant c.requires.there)
 
 pub part_of-bytes-requires : goal.part_of-bytes-requires
-part_of-bytes-requires c = inside c.self.inside.width c.args.from.now.width (length c.args.from.now.entries) c.args.start c.args.count (c.requires.width ∙ sym (width_is _ _ c.self.view_is)) c.count-count.ensures.few c.requires.there
+part_of-bytes-requires c = entries_within c.args.start c.args.count c.from.view_is c.from.invariant c.requires.there
+
+wide : (view now : NodeView) → view ≡ now → view.width ≡ now.width
+wide view now is = ap (λ (n : NodeView). n.width) is
 
 pub splice-requires-clause-bytes : goal.splice-requires-clause-bytes
 splice-requires-clause-bytes c =
-    let fits = inside c.self.inside.width c.args.from.now.width (length c.args.from.now.entries) c.args.start c.args.count (c.requires.width ∙ sym (width_is _ _ c.self.view_is)) c.count-count.ensures.few c.requires.there in
-    let size : ℕ = c.self.inside.width + 10 in
+    let within = entries_within c.args.start c.args.count c.from.view_is c.from.invariant c.requires.there in
+    let size : ℕ = c.from.inside.width + 10 in
     ap length c.part_of-bytes.ensures
-    ∙ length-take-le (c.args.count * size) (drop (32 + c.args.start * size) c.from.inside.page) (omega (arith, fits, length-drop (32 + c.args.start * size) c.from.inside.page, c.from.told))
-    ∙ ap (λ (w : ℕ). c.args.count * (w + 10)) (width_is _ _ c.self.view_is)
+    ∙ length-take-le (c.args.count * size) (drop (32 + c.args.start * size) c.from.inside.page) (omega (arith, within, length-drop (32 + c.args.start * size) c.from.inside.page, c.from.told))
+    ∙ ap (λ (w : ℕ). c.args.count * (w + 10)) (wide _ _ c.from.view_is ∙ c.requires.width)
 
 pub returns : goal.returns
 returns c =
     let node = c.args.self.now in
     let from = c.from.inside in
-    let own : node.width ≡ from.width = sym c.requires.width ∙ sym (width_is _ _ c.from.view_is) in
-    let same : c.self.inside.width ≡ from.width = width_is _ _ c.self.view_is ∙ own in
+    let own : node.width ≡ from.width = sym c.requires.width ∙ sym (wide _ _ c.from.view_is) in
     let old : ℕ = count_of from.page in
     let long : length c.args.from.now.entries ≡ old = sym (ap (λ (n : NodeView). length n.entries) c.from.view_is) ∙ length_entries from.width old (drop 32 from.page) in
     let fits = has_room from.width old c.from.invariant.formed.few in
     let key : entries_from node.width c.args.count c.part_of-bytes.result.now ≡ take c.args.count (drop c.args.start c.args.from.now.entries) =
     ap (λ (w : ℕ). entries_from w c.args.count c.part_of-bytes.result.now) own
-    ∙ ap (λ (l : List ℕ). entries_from from.width c.args.count l) (c.part_of-bytes.ensures ∙ ap (λ (w : ℕ). part from.page (32 + c.args.start * (w + 10)) (c.args.count * (w + 10))) same)
+    ∙ ap (λ (l : List ℕ). entries_from from.width c.args.count l) c.part_of-bytes.ensures
     ∙ entries_part from.width old c.args.start c.args.count from.page (omega (arith, long, c.requires.there)) (omega (arith, fits, c.from.told))
     ∙ ap (λ (n : NodeView). take c.args.count (drop c.args.start n.entries)) c.from.view_is in
     c.splice.ensures ∙ ap (λ (l : List Entry). with_entries node (spliced node.entries c.args.at 0 l)) key

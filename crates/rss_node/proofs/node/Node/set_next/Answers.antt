@@ -1,10 +1,10 @@
-use Rattle.std.proofs.Common.{ℕ, List, ap, ◌∙◌}
-use Rattle.rss_node.specs.Nodes.{NodeView, put, with_next}
+use Rattle.std.proofs.Common.{ap, ◌∙◌}
+use Rattle.rss_node.specs.Nodes.{NodeView, with_next}
 use Rattle.rss_node.proofs.Headers.{IsRenexted, next_page}
 use Rattle.rss_node.proofs.node.Node.set_next.Goals as goal
 
-renexted : (c : goal.After-put_bytes) → IsRenexted c.self.inside.width c.args.next c.self.inside.page c.put_bytes.new.page
-renexted c = next_page c.self.inside.width c.args.next c.self.inside.page c.put_bytes.new.page c.self.invariant.formed c.self.invariant.bytes c.ranges.next.fits (c.put_bytes.ensures ∙ ap (λ (l : List ℕ). put c.self.inside.page 12 l) c.to_be_bytes.ensures)
+renexted : (c : goal.After-put_u32) → IsRenexted c.self.inside.width c.args.next c.self.inside.page c.put_u32.new.page
+renexted c = next_page c.self.inside.width c.args.next c.self.inside.page c.put_u32.new.page c.self.invariant.formed c.self.invariant.bytes c.ranges.next.fits c.put_u32.ensures
 
 pub returns : goal.returns
 returns c = (renexted c).says ∙ ap (λ (n : NodeView). with_next n c.args.next) c.self.view_is
