@@ -9,9 +9,8 @@ ghost use Rattle.rss_value.specs.Numbers.{IsNumberOf};
 ghost use Rattle.rss_entries.specs.Rooms.{width_of, room_of, images_room};
 ghost use Rattle.rss_access.specs.Changes.{both, HasTables, HasRoom};
 
-use rss_base::{ImageEntry, Kind, Pages, RelationEntry};
+use rss_base::{ImageEntry, Kind, Pages, RelationEntry, node_most};
 use rss_catalog::Catalog;
-use rss_levels::capacity;
 use rss_value::key_width;
 
 /// How many home and overflow pages a change may take.
@@ -67,7 +66,7 @@ pub fn image_bound(relation: &RelationEntry, image: &ImageEntry, pairs: u64) -> 
     ensures is { result ≡ page_bound (width_of image.now relation.now) pairs }
     ensures small { result ≤ pairs + 2 }
 {
-    let least = (capacity(image_width(relation, image)) / 2) as u64;
+    let least = (node_most(image_width(relation, image)) / 2) as u64;
     pairs / (least - 1) + 2
 }
 

@@ -16,8 +16,7 @@ use crate::fitting::{are_between, is_fit, keyed_at};
 use crate::halving::zeros;
 use crate::image::Image;
 use crate::store::node_key;
-use rss_base::{Key, PAGE_BYTES, PageFault, Pages, Tid};
-use rss_levels::capacity;
+use rss_base::{Key, PAGE_BYTES, PageFault, Pages, Tid, node_most};
 use rss_node::{NO_PAGE, Node, Nodes, Pair};
 use rss_value::compare_keys;
 use std::cmp::Ordering;
@@ -229,7 +228,7 @@ fn check_under<P: Pages>(
             level - 1,
             child,
             &bound,
-            capacity(of.width) / 2,
+            node_most(of.width) / 2,
             seen,
         )?;
         if !fits {

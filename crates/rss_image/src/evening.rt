@@ -11,8 +11,7 @@ ghost use Rattle.rss_image.specs.Removed.{first_named, HasNeighbours, Evened, Jo
 
 use crate::halving::zeros;
 use crate::store::{damaged, give_page, read_node, write_node};
-use rss_base::{PageFault, Pages};
-use rss_levels::capacity;
+use rss_base::{PageFault, Pages, node_most};
 use rss_node::{Node, Nodes, Pair};
 
 /// Gives the first entry of an inner node a pair.
@@ -168,7 +167,7 @@ pub(crate) fn even<P: Pages>(
         return Err(damaged(of, other));
     }
     name_first(&mut right, level, pair);
-    if count + more <= capacity(of.width) {
+    if count + more <= node_most(of.width) {
         join_nodes(pages, of, level, number, other, &mut left, &right)?;
         return Ok(None);
     }

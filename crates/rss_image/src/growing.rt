@@ -11,8 +11,7 @@ ghost use Rattle.rss_image.specs.Grown.{put_at, Grown, Halved};
 
 use crate::halving::{Split, halve, settle};
 use crate::store::{take_page, write_node};
-use rss_base::{PageFault, Pages};
-use rss_levels::capacity;
+use rss_base::{PageFault, Pages, node_most};
 use rss_node::{Node, Nodes, Pair};
 
 /// Puts an entry into a node that was read. Where it has no room, it is split, and the new node is
@@ -44,7 +43,7 @@ pub(crate) fn grow<P: Pages>(
     ensures did { PagesCall (pages_in of.segment Image) 0 3
         (P.view pages.old) (P.view pages.new) result }
 {
-    if node.count() < capacity(of.width) {
+    if node.count() < node_most(of.width) {
         node.put(at, 0, pair, child);
         write_node(pages, of, level, number, node)?;
         return Ok(None);

@@ -9,8 +9,7 @@ ghost use Rattle.rss_image.specs.Removed.{MayRemove, Removed, MayMend, Mended};
 
 use crate::evening::even;
 use crate::store::{damaged, read_node, write_node};
-use rss_base::{PageFault, Pages};
-use rss_levels::capacity;
+use rss_base::{PageFault, Pages, node_most};
 use rss_node::{Node, Nodes, Pair};
 
 /// Whether two pairs are the same.
@@ -116,7 +115,7 @@ pub(crate) fn remove_in<P: Pages>(
     }
     let child = node.child(at - 1);
     let left = remove_in(pages, of, level - 1, child, pair)?;
-    if left < capacity(of.width) / 2 {
+    if left < node_most(of.width) / 2 {
         mend(pages, of, level, number, &mut node, at - 1)?;
     }
     Ok(node.count())

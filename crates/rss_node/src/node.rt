@@ -170,10 +170,10 @@ impl Node {
         low
     }
 
-    /// Puts an entry from a place on, in place of so many that are there.
+    /// Puts an entry from a place on, in place of so many that are there. In place of none it takes room.
     pub fn put(&mut self, at: usize, removed: usize, pair: &Pair, child: u32)
         requires within { at + removed ≤ length self.old.entries }
-        requires room { length self.old.entries + 1 ≤ node_most self.old.width + removed }
+        requires room { removed ≡ 0 → length self.old.entries + 1 ≤ node_most self.old.width }
         requires long { length pair.now ≡ self.old.width + 6 }
         ensures { self.new ≡ with_entries self.old (spliced self.old.entries at removed
             (record { pair = pair.now; child = child } ∷ [])) }
@@ -211,8 +211,8 @@ impl Node {
     fn splice(&mut self, at: usize, removed: usize, bytes: &[u8], count: usize)
         requires within { at + removed ≤ length self.old.entries }
         requires bytes { length bytes.now ≡ count * (self.old.width + 10) }
-        requires room { 0 < count → length self.old.entries + count
-            ≤ node_most self.old.width + removed }
+        requires room { removed < count → length self.old.entries + (count - removed)
+            ≤ node_most self.old.width }
         ensures { self.new ≡ with_entries self.old (spliced self.old.entries at removed
             (entries_from self.old.width count bytes.now)) }
     {

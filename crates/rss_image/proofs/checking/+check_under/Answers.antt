@@ -64,7 +64,7 @@ returns-then-not-fits-clause-never g t c = λ no told row seen stands room.
     let walked = c.loop-at.invariant.walked told row seen (rises_behind stands.leaves row stands.rises) in
     let child = has_child c.args.of view.slots view.held c.args.level c.args.number c.args.low.now c.args.fewest node.next node.entries c.loop-at.at row c.args.seen.now.pages c.child-child.result c.bound_of-bound.result c.loop-at.seen
     (omega (arith, c.if-level-eq0.false)) (omega (arith, c.loop-at-test.true)) c.loop-at.invariant.within c.child-child.ensures c.bound_of-bound.ensures holds walked stands room in
-    let there = child_now c.args.of view.slots now.slots view.held now.held (c.args.level - 1) c.child-child.result c.bound_of-bound.result _ (c.capacity.result / 2) (walked.leaves ++ row) c.loop-at.seen step.passes.slots (all_held step told) (ap (λ (n : ℕ). n / 2) c.capacity.ensures) child in
+    let there = child_now c.args.of view.slots now.slots view.held now.held (c.args.level - 1) c.child-child.result c.bound_of-bound.result _ (c.node_most.result / 2) (walked.leaves ++ row) c.loop-at.seen step.passes.slots (all_held step told) (ap (λ (n : ℕ). n / 2) c.node_most.ensures) child in
     c.in_ok-fits.ensures.never c.if-not-fits.true (step.passes.leaves.told.0 told) (walked.leaves ++ row) (own_pages c.args.of.width (walked.leaves ++ row) _ c.loop-at.seen walked.seen_is) there.stands there.room
 
 pub returns-then-not-fits-clause-did : goal.returns-then-not-fits-clause-did
@@ -88,7 +88,7 @@ loop-at-preserved g t c =
           let walked = c.loop-at.invariant.walked told row seen rises in
           let passed = c.in_ok-fits.ensures.sees c.if-not-fits.false (before.1.passes.leaves.told.0 told) (walked.leaves ++ row) (own_pages c.args.of.width (walked.leaves ++ row) _ c.loop-at.seen walked.seen_is) walked.rises in
           more_walked c.args.of view.slots view.held (c.args.level - 1) c.args.low.now node.entries c.loop-at.at row (c.args.seen.now.pages + 1) c.child-child.result c.bound_of-bound.result c.loop-at.seen c.check_under.new.seen (omega (arith, c.loop-at-test.true)) c.loop-at.invariant.within c.child-child.ensures c.bound_of-bound.ensures walked
-          (passed_then c.args.of view.slots now.slots view.held now.held (c.args.level - 1) c.child-child.result c.bound_of-bound.result _ (c.capacity.result / 2) (walked.leaves ++ row) c.loop-at.seen.pages c.check_under.new.seen before.1.passes.slots (all_held before.1 told) (ap (λ (n : ℕ). n / 2) c.capacity.ensures) passed);
+          (passed_then c.args.of view.slots now.slots view.held now.held (c.args.level - 1) c.child-child.result c.bound_of-bound.result _ (c.node_most.result / 2) (walked.leaves ++ row) c.loop-at.seen.pages c.check_under.new.seen before.1.passes.slots (all_held before.1 told) (ap (λ (n : ℕ). n / 2) c.node_most.ensures) passed);
     }
 
 pub returns-clause-sees : goal.returns-clause-sees

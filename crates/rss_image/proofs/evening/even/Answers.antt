@@ -55,7 +55,7 @@ returns-then-more-eq0-clause-did g c = widens (λ key none. none) (omega arith) 
 pub join_nodes-requires-clause-room : goal.join_nodes-requires-clause-room
 join_nodes-requires-clause-room g c =
     let long : length c.name_first.new.node.entries ≡ length c.in_ok-right.right.entries = ap (λ (n : NodeView). length n.entries) c.name_first.ensures ∙ named_long c.args.level c.args.pair.now c.in_ok-right.right.entries in
-    omega (arith, long, c.count-count.ensures.count, c.count-more.ensures.count, c.capacity.ensures, c.if-count-more.true)
+    omega (arith, long, c.count-count.ensures.count, c.count-more.ensures.count, c.node_most.ensures, c.if-count-more.true)
 
 pub join_nodes-requires-clause-left_mapped : goal.join_nodes-requires-clause-left_mapped
 join_nodes-requires-clause-left_mapped g c = λ told_two.
@@ -86,7 +86,7 @@ returns-then-count-more-clause-evened g c = λ told left right next are.
     let made = subst (λ (n : NodeView). Joined of c.args.level c.args.number c.args.other n.next (c.in_ok-left.left.entries ++ n.entries) (cells_of of two.held) (cells_of of new.held)) c.name_first.ensures (c.in_ok-join_nodes.ensures.joined told_two) in
     joined_evens of (cells_of of old.held) c.args.level c.args.number c.args.other c.args.pair.now left right next are c.in_ok-left.left c.in_ok-right.right (c.in_ok-left.ensures.holds told)
     (was_holding of c.args.level c.args.other c.in_ok-right.right.next c.in_ok-right.right.entries old one same (c.in_ok-right.ensures.holds told_one)) (cells_of of new.held)
-    (omega (arith, c.count-count.ensures.count, c.count-more.ensures.count, c.capacity.ensures, c.if-count-more.true))
+    (omega (arith, c.count-count.ensures.count, c.count-more.ensures.count, c.node_most.ensures, c.if-count-more.true))
     (subst (λ (cs : Cells). Joined of c.args.level c.args.number c.args.other c.in_ok-right.right.next (c.in_ok-left.left.entries ++ first_named c.args.level c.args.pair.now c.in_ok-right.right.entries) cs (cells_of of new.held)) same_two made)
 
 pub returns-then-count-more-clause-did : goal.returns-then-count-more-clause-did
@@ -139,7 +139,7 @@ returns-clause-evened g c = λ told left right next are.
     (was_holding of c.args.level c.args.other c.in_ok-right.right.next c.in_ok-right.right.entries old one same (c.in_ok-right.ensures.holds told_one)) (cells_of of new.held) c.in_ok-first.first
     (subst (λ (w : ℕ). length c.in_ok-left.left.entries ≤ node_most w) c.in_ok-left.ensures.is.width c.count-count.ensures.few)
     (subst (λ (w : ℕ). length c.in_ok-right.right.entries ≤ node_most w) c.in_ok-right.ensures.is.width c.count-more.ensures.few)
-    (omega (arith, c.count-count.ensures.count, c.count-more.ensures.count, c.capacity.ensures, c.if-count-more.false))
+    (omega (arith, c.count-count.ensures.count, c.count-more.ensures.count, c.node_most.ensures, c.if-count-more.false))
     (subst (λ (cs : Cells). Shared of c.args.level c.args.number c.args.other c.in_ok-left.left.next c.in_ok-right.right.next own cs (cells_of of new.held)) same_two made)
     second
 

@@ -6,8 +6,8 @@ use Rattle.rss_image.specs.Trees.{HoldsNode}
 use Rattle.rss_image.proofs.Halves.{long_put, spliced_put}
 use Rattle.rss_image.proofs.growing.grow.Goals as goal
 
-pub returns-then-count-capacity-clause-grown : goal.returns-then-count-capacity-clause-grown
-returns-then-count-capacity-clause-grown g c = λ told.
+pub returns-then-count-node_most-clause-grown : goal.returns-then-count-node_most-clause-grown
+returns-then-count-node_most-clause-grown g c = λ told.
     let node = c.args.node.now in
     let e : Entry = record { pair = c.args.pair.now; child = c.args.child } in
     let all : List Entry = put_at node.entries c.args.at e in
@@ -15,7 +15,7 @@ returns-then-count-capacity-clause-grown g c = λ told.
     let writes = c.in_ok-write_node.ensures.writes told in
     record {
       held = subst (λ (n : NodeView). HoldsNode c.args.of (g.P.Pages.view c.write_node.new.pages).held c.args.level c.args.number n.next n.entries) made writes.holds;
-      few = omega (arith, long_put node.entries c.args.at e c.requires.at, c.count.ensures.count, c.capacity.ensures, c.if-count-capacity.true);
+      few = omega (arith, long_put node.entries c.args.at e c.requires.at, c.count.ensures.count, c.node_most.ensures, c.if-count-node_most.true);
       keeps = writes.keeps;
       loses_none = writes.loses_none;
     }

@@ -18,7 +18,7 @@ use Rattle.rss_image.proofs.Halves.{many}
 use Rattle.rss_image.proofs.Results.{on_ok}
 use Rattle.rss_image.proofs.Insertion.{never_first}
 use Rattle.rss_image.proofs.Removal.{RemovedFrom, removal_node, may_below, may_mend, removed_full, removed_mended}
-use Rattle.rss_image.proofs.removing.+remove_in.Goals.{then-left-capacity+in_ok-mend, else-left-capacity}
+use Rattle.rss_image.proofs.removing.+remove_in.Goals.{then-left-node_most+in_ok-mend, else-left-node_most}
 use Rattle.rss_image.proofs.removing.+remove_in.Goals as goal
 
 pub read_node-requires-clause-there : goal.read_node-requires-clause-there
@@ -115,23 +115,23 @@ returns-clause-removed g t c = λ told pairs spot.
     let inner : 0 < c.args.level = omega arith in
     let some : 0 < c.place-at.result = omega arith in
     let does = subst (λ (n : ℕ). RemovedFrom of old (c.args.level - 1) n c.args.pair.now two c.in_ok-left.left) c.child-child.ensures (subst (λ (cs : Cells). RemovedFrom of cs (c.args.level - 1) c.child-child.result c.args.pair.now two c.in_ok-left.left) same (c.in_ok-left.ensures.removed told_one)) in
-    elim c.if-left-capacity.branch [
-      | then-left-capacity+in_ok-mend w ↦
+    elim c.if-left-node_most.branch [
+      | then-left-node_most+in_ok-mend w ↦
           let new : Cells = cells_of of (g.P.Pages.view w.mend.new.pages).held in
           let made = removed_mended of old c.args.level c.args.number c.args.pair.now pairs spot c.in_ok-node.node (c.in_ok-node.ensures.holds told) c.place-at.result inner some c.place-at.ensures.within (c.place-at.ensures.before (omega arith)) c.place-at.ensures.here full two new c.in_ok-left.left (length w.mend.new.node.entries) does (w.in_ok-mend.ensures.mended told_two) in
           subst (λ (p : _). Removes spot (cells_of of (g.P.Pages.view p).held) c.count.result) (sym w.pages-is)
           (subst (λ (n : ℕ). Removes spot new n) (ap (λ (n : NodeView). length n.entries) (sym w.node-is) ∙ sym c.count.ensures.count) made)
-      | else-left-capacity w ↦
-          let made = removed_full of old c.args.level c.args.number c.args.pair.now pairs spot c.in_ok-node.node (c.in_ok-node.ensures.holds told) c.place-at.result inner some c.place-at.ensures.within (c.place-at.ensures.before (omega arith)) c.place-at.ensures.here full two c.in_ok-left.left does (omega (arith, w.if-left-capacity.false, c.capacity.ensures)) in
+      | else-left-node_most w ↦
+          let made = removed_full of old c.args.level c.args.number c.args.pair.now pairs spot c.in_ok-node.node (c.in_ok-node.ensures.holds told) c.place-at.result inner some c.place-at.ensures.within (c.place-at.ensures.before (omega arith)) c.place-at.ensures.here full two c.in_ok-left.left does (omega (arith, w.if-left-node_most.false, c.node_most.ensures)) in
           subst (λ (p : _). Removes spot (cells_of of (g.P.Pages.view p).held) c.count.result) (sym w.pages-is)
           (subst (λ (n : ℕ). Removes spot two n) (ap (λ (n : NodeView). length n.entries) (sym w.node-is) ∙ sym c.count.ensures.count) made)
     ]
 
 pub returns-clause-did : goal.returns-clause-did
-returns-clause-did g t c = elim c.if-left-capacity.branch [
-  | then-left-capacity+in_ok-mend w ↦ subst (λ (p : _). PagesCall (pages_in c.args.of.segment Image) (3 * c.args.level + 1) (6 * c.args.level + 2) (g.P.Pages.view c.args.pages.now) (g.P.Pages.view p) (Ok c.count.result)) (sym w.pages-is)
+returns-clause-did g t c = elim c.if-left-node_most.branch [
+  | then-left-node_most+in_ok-mend w ↦ subst (λ (p : _). PagesCall (pages_in c.args.of.segment Image) (3 * c.args.level + 1) (6 * c.args.level + 2) (g.P.Pages.view c.args.pages.now) (g.P.Pages.view p) (Ok c.count.result)) (sym w.pages-is)
       (widens (λ key there. there) (omega arith) (omega arith) (done _ (then (then (untouched c.in_ok-node.ensures.did.step) c.in_ok-left.ensures.did.step) w.in_ok-mend.ensures.did.step)))
-  | else-left-capacity w ↦ subst (λ (p : _). PagesCall (pages_in c.args.of.segment Image) (3 * c.args.level + 1) (6 * c.args.level + 2) (g.P.Pages.view c.args.pages.now) (g.P.Pages.view p) (Ok c.count.result)) (sym w.pages-is)
+  | else-left-node_most w ↦ subst (λ (p : _). PagesCall (pages_in c.args.of.segment Image) (3 * c.args.level + 1) (6 * c.args.level + 2) (g.P.Pages.view c.args.pages.now) (g.P.Pages.view p) (Ok c.count.result)) (sym w.pages-is)
       (widens (λ key there. there) (omega arith) (omega arith) (done _ (then (untouched c.in_ok-node.ensures.did.step) c.in_ok-left.ensures.did.step)))
 ]
 

@@ -1,4 +1,6 @@
-use Rattle.std.proofs.Common.{◌≡◌, ◌<◌, zero, suc, ◌≤◌, ◌+◌, ◌-◌, ℕ, length, drop, arith, sym, ap, ◌∙◌}
+use Rattle.std.proofs.Common.{◌≡◌, ◌<◌, ◌≤◌, ◌+◌, ◌-◌, ℕ, length, drop, arith, sym, ap, ◌∙◌}
+use Rattle.std.proofs.lemmas.Bool.{cases_lt}
+use Rattle.std.proofs.Common.{⊎_elim}
 use Rattle.rss_base.specs.Nodes.{node_most}
 use Rattle.rss_node.specs.Nodes.{NodeView, count_of, entries_from, spliced, with_entries}
 use Rattle.rss_node.proofs.Codec.{length_entries}
@@ -8,10 +10,9 @@ use Rattle.rss_node.proofs.node.Node.splice.Goals as goal
 pub put_and_move-requires-clause-order : goal.put_and_move-requires-clause-order
 put_and_move-requires-clause-order c = omega (arith, grows c.self.inside.width (c.args.at + c.args.removed) c.count-old.result (omega (arith, c.requires.within, c.count-old.ensures.count)))
 
--- what is put has room, and so has no more than there is
-room_for : (width removed : ℕ) {long old count : ℕ} → long ≤ node_most width → long ≡ old → (0 < count → long + count ≤ node_most width + removed) → old + count ≤ node_most width + removed
-room_for width removed {count = zero} few same room = omega (arith, few, same)
-room_for width removed {count = suc n} few same room = omega (arith, same, room (omega arith))
+-- the entries that are there then have room
+room_for : (width removed : ℕ) {long old count : ℕ} → long ≤ node_most width → long ≡ old → (removed < count → long + (count - removed) ≤ node_most width) → old + count ≤ node_most width + removed
+room_for width removed {count = count} few same room = ⊎_elim (λ (more : removed < count). omega (arith, same, room more)) (λ (no : count ≤ removed). omega (arith, few, same, no)) (cases_lt removed count)
 
 wide : (view now : NodeView) → view ≡ now → now.width ≡ view.width
 wide view now is = sym (ap (λ (n : NodeView). n.width) is)
