@@ -4,7 +4,8 @@ use Rattle.std.proofs.Math.Path.{fun_ext}
 use Rattle.std.proofs.lemmas.Option.{same_Some}
 use Rattle.rss_base.specs.Devices.{DeviceView}
 use Rattle.rss_base.specs.DiskRule.{Disk, Pages, page, Told, IsTold, LeavesOnly, SameOff, IsWithin, WritesIn}
-use Rattle.rss_base.specs.Layout.{IsHeadPage, IsAreaPage, map_pages, map_at, log_at, slots_at}
+use Rattle.rss_base.specs.Sizes.{head_pages}
+use Rattle.rss_base.specs.Layout.{IsAreaPage, map_pages, map_at, log_at, slots_at}
 use Rattle.rss_base.specs.PageMap.{IsMap, IsTable, entry_at, page_count}
 use Rattle.rss_base.specs.Paged.{HasFixed}
 use Rattle.rss_base.specs.declared.key.PageKey.{PageKey}
@@ -109,7 +110,7 @@ unsynced-at {b = b} {places = places} device {settled = settled} past low only a
 -- ---- a buffer
 
 module _ {b : BufferView} (buffer : IsBuffer b) where
-  pub heads_below : (q : ℕ) → IsHeadPage q → q < b.first
+  pub heads_below : (q : ℕ) → q < head_pages → q < b.first
   heads_below q head = omega (arith, head, buffer.laid_out.place)
 
   pub switched_below : {other : ℕ} → other < 3 → (q : ℕ) → IsSwitchPlace other q → q < b.first
