@@ -430,9 +430,9 @@ module _ (held : Held) (of : Nodes) (fit : AreNodes of) (numbered : AreNumbered 
   bound_of : (bound limit : Option Pair) (low : List ℕ) (e : NodeEntry) (es : List NodeEntry) (one rest : List Pair) → Starts bound low (e ∷ es) (one ++ rest) → LiesBetween bound limit one → Each (IsGood of.width) one → IsBound low one
   bound_of None limit low e es one rest starts between goods = record { fine = starts.0; above = each_left (λ p. IsLess (bytes_of p) low → ⊥) one rest starts.1 }
   bound_of (Some least) limit low e es one rest starts between goods = record {
-    fine = ap good starts.0 ∙ good_slot of.width node_least starts.1;
+    fine = ap good starts.0 ∙ good_slot of.width least starts.1;
     above = each_two (IsGood of.width) (IsAtOrAbove (Some least)) (λ p. IsLess (bytes_of p) low → ⊥) one
-        (λ p fine above less. never_less of.width p node_least fine starts.1 above (subst (IsLess (bytes_of p)) starts.0 less)) goods (each_of (IsAtOrAbove (Some least)) one between.low);
+        (λ p fine above less. never_less of.width p least fine starts.1 above (subst (IsLess (bytes_of p)) starts.0 less)) goods (each_of (IsAtOrAbove (Some least)) one between.low);
   }
 
   -- the pairs under one node are below the next one's entry

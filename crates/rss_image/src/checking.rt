@@ -3,7 +3,7 @@ ghost use Rattle.std.specs.Prelude.{◌≡◌, ℕ, ◌+◌, ◌*◌, ◌<◌, �
 ghost use Rattle.rss_base.specs.DiskRule.{IsTold};
 ghost use Rattle.rss_base.specs.Steps.{PagesCall, no_page as no_pages};
 ghost use Rattle.rss_base.specs.Entries.{Entry, no_page};
-ghost use Rattle.rss_base.specs.Nodes.{node_least};
+ghost use Rattle.rss_base.specs.Nodes.{node_most, node_least};
 ghost use Rattle.rss_levels.specs.Entries.{Pairwise};
 ghost use Rattle.rss_levels.specs.Rows.{Row, HoldsAt, IsBefore, first, marks};
 ghost use Rattle.rss_node.specs.Nodes.{AreNodes, IsNodeOf, entry_at};
@@ -162,6 +162,8 @@ fn find_node<P: Pages>(
         level number node.next node.entries)) }
     ensures is { IfOk result (λ found. IfSome found (IsNodeOf of level number)) }
     ensures filled { IfOk result (λ found. IfSome found (λ node. fewest ≤ length node.entries)) }
+    ensures few { IfOk result (λ found. IfSome found (λ node.
+        length node.entries ≤ node_most node.width)) }
     ensures none { IfOk result (λ found. found ≡ None → IsTold (P.view pages.old).disk
         → HoldsNone of (P.view pages.old) level number fewest) }
     ensures did { PagesCall no_pages 1 1 (P.view pages.old) (P.view pages.new) result }
@@ -214,7 +216,6 @@ fn check_under<P: Pages>(
     };
     seen.pages += 1;
     if level == 0 {
-        let _count = node.count();
         return Ok(check_leaf(&node, number, low, seen));
     }
     let mut at = node.count();
@@ -266,7 +267,6 @@ impl Image {
             image: self.number,
             width: self.width,
         };
-        let _slots = pages.slots();
         let low = zeros(self.width);
         let mut seen = Seen::none();
         let fewest = fewest_of(self.levels);

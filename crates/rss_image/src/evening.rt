@@ -21,7 +21,6 @@ fn name_first(node: &mut Node, level: u8, pair: &Pair)
     ensures { node.new ≡ with_entries node.old (first_named level pair.now node.old.entries) }
 {
     if level > 0 {
-        let _count = node.count();
         let child = node.child(0);
         node.put(0, 1, pair, child);
     }
@@ -126,7 +125,6 @@ fn share_nodes<P: Pages>(
         (P.view pages.old) (P.view pages.new) result }
 {
     share(left, right);
-    let _count = right.count();
     let first = right.pair(0);
     let none = zeros(of.width);
     name_first(right, level, &none);

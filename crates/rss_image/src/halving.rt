@@ -74,7 +74,6 @@ pub(crate) fn settle(node: &mut Node, right: &mut Node, level: u8, other: u32)
         right.set_next(node.next());
         node.set_next(other);
     } else {
-        let _count = right.count();
         let first = right.child(0);
         let none = zeros(right.width());
         right.put(0, 1, &none, first);

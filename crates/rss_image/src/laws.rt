@@ -33,9 +33,7 @@ pub fn levels_are_few()
 pub fn pages_are_numbered<P: Pages>(pages: &P)
     ensures { (of : SomeNodes) → IsTold (P.view pages.now).disk
         → AreNumbered (cells_of of (P.view pages.now).held) }
-{
-    let _count = pages.slots();
-}
+{}
 
 /// Where pages spell an image by its rows (`ImageTree`), they are one by its nodes (`IsImage` of
 /// `rss_base`): the same pairs, in the same pages, each once.

@@ -33,7 +33,6 @@ pub(crate) fn add_root<P: Pages>(
     let number = take_page(pages, of, root)?;
     let mut node = Node::blank(of, level, number);
     let none = zeros(of.width);
-    let _count = node.count();
     node.put(0, 0, &none, root);
     node.put(1, 0, &split.pair, split.number);
     write_node(pages, of, level, number, &node)?;

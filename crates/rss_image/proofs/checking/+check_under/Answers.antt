@@ -1,9 +1,15 @@
-use Rattle.std.proofs.Common.{◌+◌, ◌-◌, ◌/◌, ◌++◌, ℕ, refl, sym, ap, subst, arith}
+use Rattle.std.proofs.Common.{◌+◌, ◌-◌, ◌/◌, ◌++◌, ℕ, length, refl, sym, ap, subst, arith}
 use Rattle.rss_base.proofs.Steps.{then, then_call, done, fails, all_held}
 use Rattle.rss_image.specs.Checking.{IsSeenLeaf, leaf_part}
 use Rattle.rss_image.proofs.Results.{on_some}
 use Rattle.rss_image.proofs.Walked.{never_more, with_page, page_seen, own_pages, rises_behind, child_now, passed_then, none_walked, more_walked, all_walked, leaf_passed, never_held, leaf_before, has_child}
+use Rattle.rss_node.proofs.Headers.{has_room}
 use Rattle.rss_image.proofs.checking.+check_under.Goals as goal
+
+pub returns-then-level-eq0-clause-few : goal.returns-then-level-eq0-clause-few
+returns-then-level-eq0-clause-few g t c = λ fits.
+    let few = on_some _ c.in_ok-node.field-0 c.in-Some.node c.in-Some.is c.in_ok-node.ensures.few in
+    omega (arith, has_room c.in-Some.node.width (length c.in-Some.node.entries) few, c.check_leaf.ensures.pairs fits, c.check_leaf.ensures.pages fits, c.requires.few)
 
 pub returns-then-seen-slots-clause-never : goal.returns-then-seen-slots-clause-never
 returns-then-seen-slots-clause-never g t c = λ no told row seen stands room.

@@ -31,7 +31,7 @@ returns-clause-sound g c = λ told.
     let from_none = subst (λ (n : ℕ). IsSeenUnder of view.slots view.held (image.levels - 1) image.root c.zeros-low.result fewest [] n seen) c.none-seen.ensures.pages passed in
     let whole = subst (λ (l : List ℕ). IsSeenUnder of view.slots view.held (image.levels - 1) image.root l fewest [] 0 seen) c.zeros-low.ensures from_none in
     let low = below_slots view holds allowed of image.root (stands_held of view.slots view.held (image.levels - 1) image.root (zeros image.width) fewest [] whole.stands) in
-    census_is image view seen fewest c.requires.of (numbered view (omega (arith, c.slots-slots.ensures, c.slots-slots.type_inv)) holds allowed of) (omega (arith, low)) (omega (arith, c.if-self-eq0.false)) c.fewest_of-fewest.ensures.inner whole
+    census_is image view seen fewest c.requires.of (numbered view (g.met.P.Pages.few_slots c.args.pages.now) holds allowed of) (omega (arith, low)) (omega (arith, c.if-self-eq0.false)) c.fewest_of-fewest.ensures.inner whole
 
 pub returns-in_err-fits-clause-did : goal.returns-in_err-fits-clause-did
 returns-in_err-fits-clause-did g c = (c.in_err-fits.ensures.did.0, fails _ c.from_residual.ensures.1 (λ key there. there) (omega arith) (omega arith) c.in_err-fits.ensures.did.1)
