@@ -5,10 +5,10 @@ ghost use Rattle.rss_base.specs.Listings.{relation_spelled, link_spelled};
 ghost use Rattle.rss_catalog.specs.Reading.{relation_of, link_of};
 ghost use Rattle.rss_value_rows.specs.Listed.{two_added, late_link};
 
-use rss_images::assert_same;
 use rss_base::{PAGE_BYTES, Page, PageFault, PageKey, Pages, Place, SYSTEM_PAGES, Space};
 use rss_catalog::Catalog;
 use rss_device::MemPages;
+use rss_images::assert_same;
 use std::alloc::Global;
 use std::test::Fail;
 
