@@ -3,8 +3,9 @@ use Rattle.std.proofs.Common.{◌≡◌, inl, inr, ⊎_elim, ℕ, ◌<◌, ◌�
 use Rattle.std.proofs.lemmas.List.{append-nil}
 use Rattle.rss_base.specs.DiskRule.{Disk}
 use Rattle.rss_base.specs.Streams.{Stream, Gives, IsAllOf}
+use Rattle.rss_lines.specs.Lines.{script_limit}
 use Rattle.rss_model.specs.Plays.{Scene}
-use Rattle.rss_top.specs.Run.{World, Point, Beginning, Story, Stopped, Whole, IsTaken, Ended, IsStoppedBy, IsHalt, IsStop, IsReadThrough, script_limit}
+use Rattle.rss_top.specs.Run.{World, Point, Beginning, Story, Stopped, Whole, IsTaken, Ended, IsStoppedBy, IsHalt, IsStop, IsReadThrough}
 use Rattle.rss_base.specs.declared.place.Place.{Place}
 use Rattle.rss_top.specs.Lines.{IsLineEnd, IsScriptEnd}
 use Rattle.rss_top.specs.declared.status.Status.{Status}
@@ -110,10 +111,6 @@ script_end old new source_old source_new TooLong cause = absurd cause
 script_end old new source_old source_new WrongSize cause = cause
 
 -- ---- the end
-
--- a source that has no more has given all
-pub all_of : {before mid : Option (List ℕ)} (given : List ℕ) → Gives before given mid → IsAllOf mid [] → IsAllOf before given
-all_of given gives no_more all is = let moved = gives.moves all is in moved.2 ∙ ap (λ (l : List ℕ). given ++ l) (no_more moved.0 moved.1) ∙ append-nil given
 
 -- what was taken by a run that was cut
 abbrev pub taken_cut : {status : Status} {left_old left_new : Option (List ℕ)} (given : List ℕ) → Gives left_old given left_new → length given ≤ script_limit → IsCut status → IsTaken status left_old left_new

@@ -5,7 +5,6 @@ pub mod Unasked
 pub mod Stories
 pub mod Fronts
 pub mod Pieces
-pub mod Bytes
 pub mod Endings
 pub mod Refusals
 pub mod Scripts

@@ -1,15 +1,8 @@
 -- The parts of a piece of a script.
-use Rattle.std.proofs.Common.{◌≡◌, ℕ, ◌+◌, ◌-◌, ◌<◌, ◌≤◌, List, [], ◌∷◌, ◌++◌, length, take, drop, get_or, min, sym, ◌∙◌, ap, subst, arith, length-drop}
-use Rattle.std.proofs.lemmas.List.{take_rest, take_more, take_min}
-use Rattle.std.proofs.Math.Seq.{take-add, take-append-add}
+use Rattle.std.proofs.Common.{◌≡◌, ℕ, ◌+◌, ◌-◌, ◌<◌, ◌≤◌, [], ◌∷◌, ◌++◌, length, take, drop, get_or, sym, ◌∙◌, ap, subst, arith, length-drop}
+use Rattle.std.proofs.lemmas.List.{take_rest, take_more}
+use Rattle.std.proofs.Math.Seq.{take-add}
 use Rattle.rss_model.specs.Script.{IsUnbroken}
-
--- the front of a list, of which some is there already
-pub fill-take : (n : ℕ) (xs ys : List ℕ) → length xs ≤ n → xs ++ take (min (length ys) (n - length xs)) ys ≡ take n (xs ++ ys)
-fill-take n xs ys le =
-    let whole : min (length ys) (n - length xs) ≡ min (n - length xs) (length ys) = omega arith in
-    let more : length xs + (n - length xs) ≡ n = omega arith in
-    ap (λ (k : ℕ). xs ++ take k ys) whole ∙ ap (λ (l : List ℕ). xs ++ l) (take_min (n - length xs) ys) ∙ sym (take-append-add xs ys (n - length xs)) ∙ ap (λ (k : ℕ). take k (xs ++ ys)) more
 
 -- the line that ends at a place of what is left after a place of the piece
 module _ (piece : List ℕ) (done at : ℕ) where

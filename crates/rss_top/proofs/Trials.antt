@@ -4,12 +4,13 @@ use Rattle.rss_base.specs.DiskRule.{Pages}
 use Rattle.rss_base.specs.Faults.{Rises}
 use Rattle.rss_base.specs.Streams.{Stream}
 use Rattle.rss_base.specs.declared.place.Place.{Place}
+use Rattle.rss_lines.specs.Lines.{script_limit}
 use Rattle.rss_model.specs.Machine.{StoreSize}
 use Rattle.rss_stored.specs.Store.{OpensTo}
 use Rattle.rss_model.specs.Tables.{Tables}
 use Rattle.rss_stored.proofs.Stores.{store_unbroken}
 use Rattle.rss_store.specs.Opening.{IsSpent}
-use Rattle.rss_top.specs.Run.{World, script_limit}
+use Rattle.rss_top.specs.Run.{World}
 use Rattle.rss_top.specs.Says.IsSaid.{said, cut, unsaid}
 use Rattle.rss_top.specs.Trial.{TellsTrial}
 use Rattle.rss_top.specs.Programs.{IsRunEnd, IsScriptRun, with_sink}

@@ -1,19 +1,20 @@
 -- What the functions that run lines say, each of what it runs.
-use Rattle.std.specs.Prelude.{◌≡◌, ℕ, ◌+◌, ◌≤◌, List, [], ◌++◌, length, take, Option, Result, Ok, Err, ⊤}
+use Rattle.std.specs.Prelude.{◌≡◌, ℕ, ◌+◌, ◌≤◌, List, [], length, Option, Result, Ok, Err, ⊤}
 use Rattle.rss_base.specs.DiskRule.{Disk, IsTold, Passes, Continues}
 use Rattle.rss_base.specs.Devices.{DeviceView}
 use Rattle.rss_base.specs.Faults.{Rises}
 use Rattle.rss_base.specs.Streams.{Stream, Takes, TakesFront, TakesSome}
 use Rattle.rss_base.specs.declared.name.Name.{Name}
 use Rattle.rss_base.specs.declared.call.Call.{Call}
+use Rattle.rss_lines.specs.declared.unread.Unread.{Unread}
+use Rattle.rss_lines.specs.declared.unread.Unread.TheVariants.{ReadFault as Fails, NoMemory as Lacks, TooLong as Exceeds}
 use Rattle.rss_model.specs.Machine.{State}
 use Rattle.rss_model.specs.Steps.{Answer}
-use Rattle.rss_model.specs.Script.{line_limit}
 use Rattle.rss_model.specs.Variables.{Variable}
 use Rattle.rss_model.specs.Forms.{Spells}
 use Rattle.rss_model.specs.Plays.{Scene, Made, LineStep}
 use Rattle.rss_stored.specs.Calls.{States, EngineView, GoesOn, IsAnswer, IsFault, IsDamaged, IsUnanswered}
-use Rattle.rss_top.specs.Run.{World, Beginning, point_now, OpensAt, HoldsAt, OpensAtEither, ImagesNow, Story, Stopped, Whole, IsTaken, Ended}
+use Rattle.rss_top.specs.Run.{World, Beginning, point_now, OpensAt, HoldsAt, OpensAtEither, ImagesNow, IsTaken, Ended}
 use Rattle.rss_top.specs.declared.status.Status.{Status}
 use Rattle.rss_top.specs.declared.status.Status.TheVariants.{Ok as Done, ReadFault, TooLong, WriteFault, DeviceFault, Damaged, NoMemory}
 
@@ -172,43 +173,13 @@ RunsLine old new line result =
     (λ status. FromEach old (λ state. LineStopped old new state line status))
     result
 
--- ---- bytes of a script
-
--- of the front of a line this many bytes are kept: one more than a line may have
-abbrev pub kept_limit : ℕ
-kept_limit = line_limit + 1
-
--- the run so far, up to a state that is shown, where this much of the last line's front is kept
-pub record Kept (begin : Beginning) (now : View) (given front : List ℕ) : Type 0 where
-  pub state : State
-  pub shows : now.shows state
-  pub left : List ℕ
-  pub kept : front ≡ take kept_limit left
-  pub story : Story begin now.world (scene_in now state) given left
-
--- Whatever was run so far, with this front kept: these bytes are run too, and then the next front
--- is kept; or the run has stopped within them. Each call has a byte of them, the end of its line.
-abbrev pub RunsBytes : {T : Type 0} → View → View → List ℕ → List ℕ → List ℕ → Result T Status
-    → Type 0
-RunsBytes old new front bytes next result =
-    Runs (length bytes) old new
-    ((begin : Beginning) (given : List ℕ)
-    → Kept begin old given front → Kept begin new (given ++ bytes) next)
-    (λ status. (begin : Beginning) (given : List ℕ)
-    → Kept begin old given front → Stopped status begin new.world (given ++ bytes) ⊥)
-    result
-
--- the last line, which has no end
-abbrev pub RunsLast : {T : Type 0} → View → View → List ℕ → Result T Status → Type 0
-RunsLast old new front result =
-    Runs 1 old new
-    ((begin : Beginning) (given : List ℕ)
-    → Kept begin old given front → Whole begin new.world given)
-    (λ status. (begin : Beginning) (given : List ℕ)
-    → Kept begin old given front → Stopped status begin new.world given ⊤)
-    result
-
 -- ---- a script
+
+-- with what a run ends whose script is read no further
+abbrev pub unread_status : Unread → Status
+unread_status Fails = ReadFault
+unread_status Lacks = NoMemory
+unread_status Exceeds = TooLong
 
 -- the cause of a status with which a script ends
 abbrev pub IsScriptEnd : World → World → Stream → Stream → Status → Type 0

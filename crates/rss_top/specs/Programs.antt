@@ -4,6 +4,7 @@ use Rattle.rss_base.specs.DiskRule.{Pages, Told, IsTold, Leaves, Passes}
 use Rattle.rss_base.specs.Faults.{Rises}
 use Rattle.rss_base.specs.declared.place.Place.{Place}
 use Rattle.rss_base.specs.declared.place.Place.TheVariants.{Room, Log as LogPlace}
+use Rattle.rss_lines.specs.Lines.{script_limit}
 use Rattle.rss_model.specs.Tables.{Tables}
 use Rattle.rss_model.specs.Generator.{generated}
 use Rattle.rss_model.specs.Machine.{StoreSize, State, IsAtRest}
@@ -15,7 +16,7 @@ use Rattle.rss_store.specs.Formatted.{AreSizes}
 use Rattle.rss_store.specs.Opening.{HasTables, IsSpent, HasNamed}
 use Rattle.rss_words.specs.Words.{AreRun, AreFormat, AreGenerate, AreTrial, IsCommand}
 use Rattle.rss_base.specs.Streams.{Stream}
-use Rattle.rss_top.specs.Run.{World, IsTaken, IsRun, script_limit}
+use Rattle.rss_top.specs.Run.{World, IsTaken, IsRun}
 use Rattle.rss_top.specs.Lines.{IsScriptEnd}
 use Rattle.rss_top.specs.Says.{Says, TellsDamage}
 use Rattle.rss_top.specs.Format.{IsFormat}

@@ -1,8 +1,9 @@
 -- One run over a script, tied to what a stop at each moment of it leaves.
-use Rattle.std.specs.Prelude.{◌≡◌, ◌⊎◌, ℕ, ◌^◌, ◌<◌, ◌≤◌, List, [], ◌∷◌, ◌++◌, length, Option, All}
+use Rattle.std.specs.Prelude.{◌≡◌, ◌⊎◌, ℕ, ◌<◌, ◌≤◌, List, [], ◌∷◌, ◌++◌, length, Option, All}
 use Rattle.rss_base.specs.DiskRule.{Disk, Pages, Told, Leaves, Passes}
 use Rattle.rss_base.specs.Streams.{Stream, Gives, IsAllOf, Takes}
 use Rattle.rss_base.specs.declared.place.Place.{Place}
+use Rattle.rss_lines.specs.Lines.{line_end, script_limit}
 use Rattle.rss_model.specs.ReplyText.{damaged_line}
 use Rattle.rss_model.specs.Runs.{Run}
 use Rattle.rss_model.specs.Serial.{serial, RunsSerially}
@@ -154,10 +155,6 @@ IsStoppedBy status disk from line said = ⊥
 abbrev pub IsLineFault : Status → Type 0
 IsLineFault status = (status ≡ DeviceFault) ⊎ (status ≡ WriteFault)
 
--- the byte that ends a line
-abbrev pub line_end : ℕ
-line_end = 10
-
 -- What comes behind a line: its end, or, where the script is over, nothing.
 abbrev pub EndsLine : Type 0 → List ℕ → Type 0
 EndsLine over [] = over
@@ -192,10 +189,6 @@ IsStop status = (status ≡ WriteFault) ⊎ (status ≡ DeviceFault) ⊎ (status
 -- the run read up to the script's end, or up to a fault of the source
 abbrev pub IsReadThrough : Status → Type 0
 IsReadThrough status = (status ≡ Ok) ⊎ (status ≡ ReadFault)
-
--- a script has fewer bytes than this
-abbrev pub script_limit : ℕ
-script_limit = 2 ^ 30
 
 -- The bytes that a source gave to a run, by how the run ended.
 pub record IsTaken (status : Status) (left_old left_new : Option (List ℕ)) : Type 0 where

@@ -2,7 +2,7 @@
 ghost use Rattle.std.specs.Prelude.{◌≡◌, ◌+◌, ◌^◌, ◌<◌, ◌≤◌, [], ◌∷◌, length};
 ghost use Rattle.rss_top.specs.Trial.{is_refusal, refusals, IsTally};
 
-use crate::feed::end_of_line;
+use rss_lines::end_of_line;
 
 /// How many replies there are: those that begin with `refused`, and the others.
 #[derive(Clone, Copy)]

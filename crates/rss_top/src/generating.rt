@@ -1,7 +1,7 @@
 // A generated script, written to the sink.
 ghost use Rattle.std.specs.Prelude.{◌≡◌, ◌<◌, ◌≤◌, [], ◌∷◌, ◌++◌, length, slice_index_or, IfOk};
+ghost use Rattle.rss_lines.specs.Lines.{line_end};
 ghost use Rattle.rss_model.specs.Generator.{generated, most_employees};
-ghost use Rattle.rss_top.specs.Run.{line_end};
 ghost use Rattle.rss_top.specs.Generated.{WritesLines};
 
 use crate::Status;

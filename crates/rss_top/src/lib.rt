@@ -4,7 +4,6 @@
 
 mod counting;
 mod ending;
-mod feed;
 mod generated;
 mod generating;
 mod line;

@@ -1,7 +1,7 @@
 // A script, run over the store of a device.
 ghost use Rattle.std.specs.Prelude.{◌+◌, ◌≤◌};
+ghost use Rattle.rss_lines.specs.Lines.{script_limit};
 ghost use Rattle.rss_stored.specs.Calls.{calls_most};
-ghost use Rattle.rss_top.specs.Run.{script_limit};
 ghost use Rattle.rss_top.specs.Lines.{seen, on, RunsScript};
 ghost use Rattle.rss_top.specs.Says.{TellsDamage};
 ghost use Rattle.rss_top.specs.Programs.{IsScriptRun};

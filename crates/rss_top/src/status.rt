@@ -1,8 +1,10 @@
 // How a run ends.
 ghost use Rattle.std.specs.Prelude.{◌≡◌};
 ghost use Rattle.rss_top.specs.Exit.{exit_status};
+ghost use Rattle.rss_top.specs.Lines.{unread_status};
 
 use rss_base::Place;
+use rss_lines::Unread;
 
 /// How a run ended. Each status is the exit status of the program, by its number.
 #[derive(Clone, Copy, Debug, PartialEq, Eq)]
@@ -45,6 +47,18 @@ impl Status {
             Status::NoMemory => 6,
             Status::TooLong => 7,
             Status::WrongSize => 8,
+        }
+    }
+}
+
+impl From<Unread> for Status {
+    ghost from_gives = { λ why status. status ≡ unread_status why };
+
+    fn from(why: Unread) -> Self {
+        match why {
+            Unread::ReadFault => Status::ReadFault,
+            Unread::NoMemory => Status::NoMemory,
+            Unread::TooLong => Status::TooLong,
         }
     }
 }

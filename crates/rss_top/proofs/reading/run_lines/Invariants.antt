@@ -1,20 +1,17 @@
-use Rattle.std.proofs.Common.{◌≡◌, ◌≤◌, ◌-◌, vec_len}
+use Rattle.std.proofs.Common.{◌+◌, ◌-◌, length}
+use Rattle.rss_lines.specs.Lines.{script_limit}
 use Rattle.rss_top.specs.Lines.{seen, seen_with}
 use Rattle.rss_top.proofs.Scripts.{Reading}
 use Rattle.rss_top.proofs.reading.run_lines.Given as goal
 
-abbrev pub invariant-loop-taken : goal.invariant-loop-taken
-invariant-loop-taken g l = record {
-  within : l.taken ≤ 1073741824;
-  room : vec_len l.piece ≡ 65536;
-  up : (g.E.Engine.view l.engine).is_up;
-  reading : Reading
-      (seen (g.E.Engine.view l.initial.engine) (g.K.Sink.view l.initial.sink))
-      (seen_with l.names.variables (g.E.Engine.view l.engine) (g.K.Sink.view l.sink))
-      (g.O.Source.view l.initial.source)
-      (g.O.Source.view l.source)
-      l.taken l.front.items;
-}
+abbrev pub invariant-loop-lines : goal.invariant-loop-lines
+invariant-loop-lines g l =
+    Reading
+    (seen (g.E.Engine.view l.initial.engine) (g.K.Sink.view l.initial.sink))
+    (seen_with l.names.variables (g.E.Engine.view l.engine) (g.K.Sink.view l.sink))
+    (g.O.Source.view l.initial.source)
+    (g.O.Source.view l.source)
+    l.lines
 
-abbrev pub decreases-loop-taken : goal.decreases-loop-taken
-decreases-loop-taken g l = 1073741824 - l.taken
+abbrev pub decreases-loop-lines : goal.decreases-loop-lines
+decreases-loop-lines g l = script_limit + length l.lines.rest - l.lines.taken
