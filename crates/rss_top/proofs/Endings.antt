@@ -1,6 +1,5 @@
 -- How a run ends.
-use Rattle.std.proofs.Common.{◌≡◌, inl, inr, ⊎_elim, ℕ, ◌<◌, ◌≤◌, List, [], ◌++◌, length, Option, Some, refl, ◌∙◌, ap, arith, length-append}
-use Rattle.std.proofs.lemmas.List.{append-nil}
+use Rattle.std.proofs.Common.{◌≡◌, inl, inr, ⊎_elim, ℕ, ◌<◌, ◌≤◌, List, length, Option, Some, refl, ap, arith, length-append}
 use Rattle.rss_base.specs.DiskRule.{Disk}
 use Rattle.rss_base.specs.Streams.{Stream, Gives, IsAllOf}
 use Rattle.rss_lines.specs.Lines.{script_limit}

@@ -1,12 +1,12 @@
 -- A script, while it is read and run.
-use Rattle.std.proofs.Common.{◌≡◌, inl, inr, ℕ, ◌+◌, ◌-◌, ◌<◌, ◌≤◌, Bool, true, false, List, [], ◌∷◌, ◌++◌, length, refl, sym, ◌∙◌, ap, subst, arith, append_assoc, length-append}
+use Rattle.std.proofs.Common.{◌≡◌, inl, inr, ℕ, ◌+◌, ◌-◌, ◌<◌, ◌≤◌, Bool, true, false, List, [], ◌∷◌, ◌++◌, length, take, refl, sym, ◌∙◌, ap, subst, arith, append_assoc, length-append}
 use Rattle.std.specs.Prelude.{Result, Ok, Err}
 use Rattle.std.proofs.lemmas.List.{append-nil}
 use Rattle.rss_base.specs.DiskRule.{IsTold}
 use Rattle.rss_base.specs.Streams.{Stream, Gives, IsAllOf}
 use Rattle.rss_base.proofs.Flows.{gives_none, gives_then}
 use Rattle.rss_base.proofs.Moments.{rises_since}
-use Rattle.rss_lines.specs.Lines.{LinesView, script_limit, at_start, Advances, Finds, IsFront}
+use Rattle.rss_lines.specs.Lines.{LinesView, script_limit, at_start, Advances, IsFront}
 use Rattle.rss_lines.specs.Lines.Finds.{ended, last}
 use Rattle.rss_lines.specs.declared.unread.Unread.{Unread}
 use Rattle.rss_lines.specs.declared.unread.Unread.TheVariants.{ReadFault as Fails, NoMemory as Lacks, TooLong as Exceeds}
@@ -20,10 +20,14 @@ use Rattle.rss_top.specs.declared.status.Status.{Status}
 use Rattle.rss_top.specs.declared.status.Status.TheVariants.{Ok as Done, ReadFault, NoMemory, TooLong}
 use Rattle.rss_top.proofs.Ways.{idles, end_since, passes_then}
 use Rattle.rss_top.proofs.Stories.{story_start, story_bytes, story_line, whole_line, whole_ended, stopped_by_line, stopped_unread}
-use Rattle.rss_top.proofs.Fronts.{kept_limit}
+use Rattle.rss_top.proofs.Fronts.{kept_limit, runs_whole}
 use Rattle.rss_top.proofs.Endings.{stop_is_cut, line_is_cut, not_halt, not_through, taken_cut, ended_halted, ended_stopped, ended_whole, script_end}
 
 -- ---- the run so far
+
+-- where a run begins from a state
+abbrev pub begun : View → Stream → State → Beginning
+begun old source state = beginning (scene_in old state) old.world source
 
 -- All lines of these bytes were run, up to a state that is shown.
 pub record Stands (begin : Beginning) (now : View) (passed : List ℕ) : Type 0 where
@@ -50,7 +54,7 @@ pub record Reading (old now : View) (source_old source_now : Stream) (lines : Li
   pub up : now.is_up
   pub passes : PassesOn old.world now.world
   pub calls : now.calls ≤ old.calls + length passed
-  pub ran : IsTold old.world.disk → FromEach old (λ state. Ran (beginning (scene_in old state) old.world source_old) now passed lines.over)
+  pub ran : IsTold old.world.disk → FromEach old (λ state. Ran (begun old source_old state) now passed lines.over)
 
 -- what a stop leaves at first
 abbrev pub IsOpen : View → Type 0
@@ -125,21 +129,18 @@ module _ {old now : View} {source_old source_now source_new : Stream} {lines nex
   few = omega (arith, ap length parts, length-append reading.passed (lines.rest ++ looked.more))
 
   module _ (going : lines.over ≡ false) (told : IsTold old.world.disk) (state : State) (shown : old.shows state) where
-    abbrev begin : Beginning
-    begin = beginning (scene_in old state) old.world source_old
-
-    pub stands : Stands begin now reading.passed
-    stands = subst (Ran begin now reading.passed) going (reading.ran told state shown)
+    pub stands : Stands (begun old source_old state) now reading.passed
+    stands = subst (Ran (begun old source_old state) now reading.passed) going (reading.ran told state shown)
 
     -- with the front of the next line
-    pub front_story : Story begin now.world (scene_in now stands.state) (reading.passed ++ looked.line) looked.line
+    pub front_story : Story (begun old source_old state) now.world (scene_in now stands.state) (reading.passed ++ looked.line) looked.line
     front_story = story_bytes looked.line looked.seeks.unbroken stands.story
 
 -- ---- the script is over
 
-whole_of : {begin : Beginning} {now : View} {passed : List ℕ} (over : Bool) → Ran begin now passed over → Whole begin now.world passed
-whole_of false stands = whole_ended stands.story refl
-whole_of true whole = whole
+whole_of : {begin : Beginning} (now : View) {passed : List ℕ} (over : Bool) → Ran begin now passed over → Whole begin now.world passed
+whole_of now false stands = whole_ended stands.story refl
+whole_of now true whole = whole
 
 module _ {old now : View} {source_old source_now source_new : Stream} {lines next : LinesView} (reading : Reading old now source_old source_now lines) (looked : Advances lines next source_now source_new (Ok false)) where
   all_passed : given reading looked ≡ reading.passed
@@ -169,7 +170,7 @@ module _ {old now : View} {source_old source_now source_new : Stream} {lines nex
     calls = omega (arith, reading.calls, few reading looked);
     up = λ ok. reading.up;
     ended = λ told state shown. ended_whole taken_all
-        (subst (Whole (beginning (scene_in old state) old.world source_old) now.world) (sym all_passed) (whole_of lines.over (reading.ran told state shown)));
+        (subst (Whole (begun old source_old state) now.world) (sym all_passed) (whole_of now lines.over (reading.ran told state shown)));
   }
 
 -- ---- the script is read no further
@@ -197,7 +198,7 @@ module _ {old now : View} {source_old source_now source_new : Stream} {lines nex
         calls = omega (arith, reading.calls, few reading looked);
         up = λ ok. absurd (not_halt halt ok);
         ended = λ told state shown. ended_halted status halt taken
-            (subst (λ (l : List ℕ). Story (beginning (scene_in old state) old.world source_old) now.world (scene_in now (stands reading looked still_going told state shown).state) l looked.line) (sym is)
+            (subst (λ (l : List ℕ). Story (begun old source_old state) now.world (scene_in now (stands reading looked still_going told state shown).state) l looked.line) (sym is)
             (front_story reading looked still_going told state shown));
       }
 
@@ -214,7 +215,7 @@ module _ {old now : View} {source_old source_now source_new : Stream} {lines nex
         ended = λ told state shown.
             let stand = stands reading looked still_going told state shown in
             ended_stopped NoMemory taken
-            (subst (λ (l : List ℕ). Stopped NoMemory (beginning (scene_in old state) old.world source_old) now.world l (IsAllOf source_old.bytes (given reading looked))) (sym (parts reading looked))
+            (subst (λ (l : List ℕ). Stopped NoMemory (begun old source_old state) now.world l (IsAllOf source_old.bytes (given reading looked))) (sym (parts reading looked))
             (stopped_unread now stand.state (IsAllOf source_old.bytes (given reading looked)) (lines.rest ++ looked.more) stand.story));
       }
 
@@ -259,23 +260,23 @@ module _ {old now : View} {source_old source_now source_new : Stream} {lines nex
     whole_runs = runs_whole looked.line (Ok done) line_kept runs
 
     module _ (told : IsTold old.world.disk) (state : State) (shown : old.shows state) where
-      abbrev stand : Stands (beginning (scene_in old state) old.world source_old) now reading.passed
+      abbrev stand : Stands (begun old source_old state) now reading.passed
       stand = stands reading looked line_going told state shown
 
       line_ran : LineRan now new stand.state looked.line
       line_ran = whole_runs.outcome.1 (reading.passes.told told) stand.state stand.shows
 
-      ended_ran : Stands (beginning (scene_in old state) old.world source_old) new ((reading.passed ++ looked.line) ++ 10 ∷ [])
+      ended_ran : Stands (begun old source_old state) new ((reading.passed ++ looked.line) ++ 10 ∷ [])
       ended_ran = record {
         state = line_ran.next;
         shows = line_ran.shows;
         story = story_line {old = now} {new = new} (front_story reading looked line_going told state shown) line_ran;
       }
 
-      last_ran : 0 < length looked.line → Whole (beginning (scene_in old state) old.world source_old) new.world (reading.passed ++ looked.line)
+      last_ran : 0 < length looked.line → Whole (begun old source_old state) new.world (reading.passed ++ looked.line)
       last_ran some = whole_line {old = now} {new = new} (front_story reading looked line_going told state shown) (λ empty. omega (arith, ap length empty, some)) line_ran
 
-    reads_to : (passed : List ℕ) → given reading looked ≡ passed ++ next.rest → length reading.passed < length passed → (IsTold old.world.disk → FromEach old (λ state. Ran (beginning (scene_in old state) old.world source_old) new passed next.over))
+    reads_to : (passed : List ℕ) → given reading looked ≡ passed ++ next.rest → length reading.passed < length passed → (IsTold old.world.disk → FromEach old (λ state. Ran (begun old source_old state) new passed next.over))
         → Reading old new source_old source_new next
     reads_to passed is more ran = record {
       given = given reading looked;
@@ -297,10 +298,10 @@ module _ {old now : View} {source_old source_now source_new : Stream} {lines nex
     line_read = elim looked.outcome [
       | ended is going ↦ reads_to ((reading.passed ++ looked.line) ++ 10 ∷ []) (line_parts reading looked (10 ∷ next.rest) is ∙ sym (append_assoc (reading.passed ++ looked.line) (10 ∷ []) next.rest))
           (omega (arith, length-append (reading.passed ++ looked.line) (10 ∷ []), length-append reading.passed looked.line))
-          (λ told state shown. subst (Ran (beginning (scene_in old state) old.world source_old) new ((reading.passed ++ looked.line) ++ 10 ∷ [])) (sym going) (ended_ran told state shown))
+          (λ told state shown. subst (Ran (begun old source_old state) new ((reading.passed ++ looked.line) ++ 10 ∷ [])) (sym going) (ended_ran told state shown))
       | last is some over ↦ reads_to (reading.passed ++ looked.line) (line_parts reading looked next.rest (is ∙ sym (append-nil looked.line) ∙ ap (λ (l : List ℕ). looked.line ++ l) (sym (looked.over over).none)))
           (omega (arith, length-append reading.passed looked.line, some))
-          (λ told state shown. subst (Ran (beginning (scene_in old state) old.world source_old) new (reading.passed ++ looked.line)) (sym over) (last_ran told state shown some))
+          (λ told state shown. subst (Ran (begun old source_old state) new (reading.passed ++ looked.line)) (sym over) (last_ran told state shown some))
     ]
 
   -- the run ends within the line
@@ -309,14 +310,14 @@ module _ {old now : View} {source_old source_now source_new : Stream} {lines nex
     whole_stops = runs_whole {T = T} looked.line (Err status) line_kept runs
 
     stopped_with : (behind : List ℕ) → lines.rest ++ looked.more ≡ looked.line ++ behind → EndsLine (IsAllOf source_old.bytes (given reading looked)) behind → IsTold old.world.disk → (state : State) → old.shows state
-        → Stopped status (beginning (scene_in old state) old.world source_old) new.world (given reading looked) (IsAllOf source_old.bytes (given reading looked))
+        → Stopped status (begun old source_old state) new.world (given reading looked) (IsAllOf source_old.bytes (given reading looked))
     stopped_with behind is ends told state shown =
         let stand = stands reading looked line_going told state shown in
-        subst (λ (l : List ℕ). Stopped status (beginning (scene_in old state) old.world source_old) new.world l (IsAllOf source_old.bytes (given reading looked))) (sym (line_parts reading looked behind is))
+        subst (λ (l : List ℕ). Stopped status (begun old source_old state) new.world l (IsAllOf source_old.bytes (given reading looked))) (sym (line_parts reading looked behind is))
         (stopped_by_line now stand.state (IsAllOf source_old.bytes (given reading looked)) behind (front_story reading looked line_going told state shown) new ends status
         (whole_stops.outcome.1 (reading.passes.told told) stand.state stand.shows))
 
-    stopped : IsTold old.world.disk → (state : State) → old.shows state → Stopped status (beginning (scene_in old state) old.world source_old) new.world (given reading looked) (IsAllOf source_old.bytes (given reading looked))
+    stopped : IsTold old.world.disk → (state : State) → old.shows state → Stopped status (begun old source_old state) new.world (given reading looked) (IsAllOf source_old.bytes (given reading looked))
     stopped = elim looked.outcome [
       | ended is going ↦ stopped_with (10 ∷ next.rest) is refl
       | last is some over ↦ stopped_with [] (is ∙ sym (append-nil looked.line)) (last_given over)
@@ -335,6 +336,10 @@ module _ {old now : View} {source_old source_now source_new : Stream} {lines nex
           up = λ ok. absurd (cut.within (inl ok));
           ended = λ told state shown. ended_stopped status taken (stopped told state shown);
         }
+
+-- the same line
+pub line_as : {T : Type 0} {old new : View} {line same : List ℕ} (result : Result T Status) → line ≡ same → RunsLine old new line result → RunsLine old new same result
+line_as {T = T} {old = old} {new = new} result is runs = subst (λ (l : List ℕ). RunsLine {T = T} old new l result) is runs
 
 -- what the variables stand for behind a script is not looked at
 pub script_seen : {old : View} {names : List Variable} (engine : EngineView) (sink : Stream) {source_old source_new : Stream} {status : Status} → RunsScript old (seen_with names engine sink) source_old source_new status → RunsScript old (seen engine sink) source_old source_new status

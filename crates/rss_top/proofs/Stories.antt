@@ -188,29 +188,3 @@ module _ (old : View) (state : State) {begin : Beginning} {given left : List ℕ
 -- memory ran out before the line was run
 pub stopped_unread : (view : View) (state : State) {begin : Beginning} {given left : List ℕ} (over : Type 0) (rest : List ℕ) → Story begin view.world (scene_in view state) given left → Stopped NoMemory begin view.world (given ++ rest) over
 stopped_unread view state over rest story = stopped_by_memory view state over rest story {new = view} (record { moments = started _ _; same = refl })
-
--- that all of the script was given may be known from less, and more may have been given behind a line's end
-pub stopped_over : {status : Status} {begin : Beginning} {now : World} {given : List ℕ} {P Q : Type 0} (behind : List ℕ) → ((rest : List ℕ) → EndsLine P rest → EndsLine Q (rest ++ behind)) → Stopped status begin now given P → Stopped status begin now (given ++ behind) Q
-stopped_over behind over stop = record {
-  lines = stop.lines;
-  made = stop.made;
-  from = stop.from;
-  line = stop.line;
-  rest = stop.rest ++ behind;
-  said = stop.said;
-  played = stop.played;
-  parts = ap (λ (l : List ℕ). l ++ behind) stop.parts ∙ append_assoc (joined stop.lines) (stop.line ++ stop.rest) behind ∙ ap (λ (l : List ℕ). joined stop.lines ++ l) (append_assoc stop.line stop.rest behind);
-  whole = stop.whole;
-  front = stop.front;
-  ends = λ is. over stop.rest (stop.ends is);
-  takes = stop.takes;
-  stopped = stop.stopped;
-}
-
-pub ends_within : (Q : Type 0) (behind rest : List ℕ) → EndsLine ⊥ rest → EndsLine Q (rest ++ behind)
-ends_within Q behind [] ends = absurd ends
-ends_within Q behind (b ∷ rest) ends = ends
-
-pub ends_all : {P Q : Type 0} (rest : List ℕ) → (P → Q) → EndsLine P rest → EndsLine Q (rest ++ [])
-ends_all [] over ends = over ends
-ends_all (b ∷ rest) over ends = ends
