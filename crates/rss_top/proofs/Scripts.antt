@@ -332,7 +332,7 @@ module _ {old now : View} {source_old source_now source_new : Stream} {lines nex
           passes = passes_then reading.passes runs.passes;
           cause = script_end old.world new.world source_old source_new status cause;
           taken = taken;
-          calls = omega (arith, reading.calls, runs.calls, few reading looked);
+          calls = omega (arith, reading.calls, runs.calls, some_left);
           up = λ ok. absurd (cut.within (inl ok));
           ended = λ told state shown. ended_stopped status taken (stopped told state shown);
         }

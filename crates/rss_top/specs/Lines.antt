@@ -197,13 +197,13 @@ beginning scene now source = record {
 }
 
 -- A script was run over an engine, from whatever state is shown. The engine is up behind one that
--- was run to its end, and each call has a byte of it, but for one that the last line may ask for.
+-- was run to its end, and each call has a byte of it.
 pub record RunsScript (old new : View) (source_old source_new : Stream) (status : Status)
     : Type 0 where
   pub passes : PassesOn old.world new.world
   pub cause : IsScriptEnd old.world new.world source_old source_new status
   pub taken : IsTaken status source_old.bytes source_new.bytes
-  pub calls : new.calls ≤ old.calls + (length taken.given + 1)
+  pub calls : new.calls ≤ old.calls + length taken.given
   pub up : status ≡ Done → new.is_up
   pub ended : IsTold old.world.disk → FromEach old (λ state.
       Ended status (beginning (scene_in old state) old.world source_old) new.world source_new.bytes)
