@@ -18,7 +18,7 @@ use Rattle.rss_model.specs.Fits.{Fits}
 use Rattle.rss_model.specs.Records.{LogEntry, Checkpoint}
 use Rattle.rss_model.specs.Recovers.{Recovers}
 use Rattle.rss_model.specs.Meanings.{Logged, as_bytes, as_entries, Says, says_change, says_restore, says_end, says_abort, says_checkpoint, MeansIt, IsLogged, is_listed}
-use Rattle.rss_stored.specs.Store.{Stored, stored, HasLog}
+use Rattle.rss_stored.specs.Store.{Stored, HasLog}
 use Rattle.rss_stored.proofs.LogPlaced.{told_at}
 
 -- ---- a root with the first log
@@ -36,8 +36,16 @@ first_record = record { at = 0; told = records.Checkpoint []; is = Checkpoint []
 
 -- a store with the first log, by which the tables of its checkpoint are recovered
 abbrev pub first_stored : ℕ → Root → List (Option PageKey) → Listing → Tables → Stored
-first_stored number root owners listing tables =
-    stored number root owners listing tables [] (first_record ∷ []) tables
+first_stored number root owners listing tables = record {
+  number = number;
+  root = root;
+  owners = owners;
+  listing = listing;
+  saved = tables;
+  older = [];
+  newer = first_record ∷ [];
+  tables = tables;
+}
 
 pub first_parses : (pages : Pages) (root : Root) → HasFirstLog root → Parses (log_bytes pages root) root.head (as_bytes (first_record ∷ [])) root.end
 first_parses pages root first = record {

@@ -281,18 +281,6 @@ pub record Stored : Type 0 where
   pub newer : List Logged
   pub tables : Tables
 
-abbrev pub stored : ℕ → Root → List (Option PageKey) → Listing → Tables → List Logged → List Logged → Tables → Stored
-stored number root owners listing saved older newer tables = record {
-  number = number;
-  root = root;
-  owners = owners;
-  listing = listing;
-  saved = saved;
-  older = older;
-  newer = newer;
-  tables = tables;
-}
-
 -- the pages of the map
 abbrev pub held_in : Pages → Stored → Held
 held_in pages stored =
