@@ -4,9 +4,9 @@ use Rattle.std.proofs.Math.Path.{fun_ext}
 use Rattle.std.proofs.lemmas.Option.{same_Some}
 use Rattle.rss_base.specs.Devices.{DeviceView}
 use Rattle.rss_base.specs.DiskRule.{Disk, Pages, page, Told, IsTold, LeavesOnly, SameOff, IsWithin, WritesIn}
-use Rattle.rss_base.specs.Sizes.{head_pages}
 use Rattle.rss_base.specs.Layout.{IsAreaPage, map_pages, map_at, log_at, slots_at}
 use Rattle.rss_base.specs.PageMap.{IsMap, IsTable, entry_at, page_count}
+use Rattle.rss_base.specs.Sizes.{head_pages}
 use Rattle.rss_base.specs.Paged.{HasFixed}
 use Rattle.rss_base.specs.declared.key.PageKey.{PageKey}
 use Rattle.rss_pagemap.proofs.Written.{area_ends}

@@ -27,21 +27,21 @@ changed_mapped maps key is = by (slot_of maps.current key) is
     by None is = absurd (cc)
     by (Some slot) is = refl
 
--- a page with such a slot was changed
-changed_at : (maps : Maps) (key : PageKey) (slot : ℕ) → slot_of maps.current key ≡ Some slot → owner_of maps.shadow slot ≡ None → changed_by maps key ≡ true
-changed_at maps key slot at free =
-    ap (λ (o : Option ℕ). unwrap_or (option_map (λ slot. is_none (owner_of maps.shadow slot)) o) false) at
-    ∙ ap (λ (o : Option PageKey). is_none o) free
-
 -- a page that waits was changed
 waiting_changed : (maps : Maps) (frames : FrameOf) → AreFrames maps frames → AreAmong (waiting_in frames) (changed_by maps)
 waiting_changed maps frames are = λ key is. by key (frames key) refl is
   where
+    -- a page with such a slot was changed
+    at : (key : PageKey) (slot : ℕ) → slot_of maps.current key ≡ Some slot → owner_of maps.shadow slot ≡ None → changed_by maps key ≡ true
+    at key slot here free =
+        ap (λ (o : Option ℕ). unwrap_or (option_map (λ slot. is_none (owner_of maps.shadow slot)) o) false) here
+        ∙ ap (λ (o : Option PageKey). is_none o) free
+
     by : (key : PageKey) (o : Option Frame) → frames key ≡ o → is_changed o ≡ true → changed_by maps key ≡ true
     by key None there is = absurd (cc)
     by key (Some frame) there is =
         let slot = the_slot maps.current key (are.mapped key frame there) in
-        changed_at maps key slot.0 slot.1 (are.own_slot key frame slot.0 there is (owner_of-slot_of maps.current key slot.0 slot.1))
+        at key slot.0 slot.1 (are.own_slot key frame slot.0 there is (owner_of-slot_of maps.current key slot.0 slot.1))
 
 -- what is noted is mapped
 pub noted_by : {owners : List (Option PageKey)} (marked : Marked) → AreNotesOf owners (told marked) → (key : PageKey) → is_some ((told marked).notes key) ≡ true → mapped_by owners key ≡ true

@@ -3,6 +3,7 @@ ghost use Rattle.std.specs.Prelude.{◌≡◌, length};
 ghost use Rattle.std.specs.Int.{w16, w32, w64};
 ghost use Rattle.rss_record.specs.Reading.{Gives, byte_at, number_at, tid_at, place_at, values_at, mark_at, marks_at};
 
+use byteorder::{BigEndian, ByteOrder};
 use rss_base::{Body, MARKS_MOST, Marks, PAGE_ENTRIES, Tid};
 use std::marker::Model;
 
@@ -57,7 +58,7 @@ impl<'a> Fields<'a> {
         }
         let (front, rest) = self.rest.split_at(2);
         self.rest = rest;
-        Some(u16::from_be_bytes([front[0], front[1]]))
+        Some(BigEndian::read_u16(front))
     }
 
     pub(crate) fn u32(&mut self) -> Option<u32>
@@ -68,7 +69,7 @@ impl<'a> Fields<'a> {
         }
         let (front, rest) = self.rest.split_at(4);
         self.rest = rest;
-        Some(u32::from_be_bytes([front[0], front[1], front[2], front[3]]))
+        Some(BigEndian::read_u32(front))
     }
 
     pub(crate) fn u64(&mut self) -> Option<u64>
@@ -79,9 +80,7 @@ impl<'a> Fields<'a> {
         }
         let (front, rest) = self.rest.split_at(8);
         self.rest = rest;
-        Some(u64::from_be_bytes([
-            front[0], front[1], front[2], front[3], front[4], front[5], front[6], front[7],
-        ]))
+        Some(BigEndian::read_u64(front))
     }
 
     #[tactic(auto, unfolding(crate::specs::Reading::tid_at))]

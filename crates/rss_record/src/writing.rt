@@ -1,12 +1,13 @@
 // Records, written as bytes.
 ghost use Rattle.std.specs.Prelude.{◌≡◌, ◌+◌, ◌≤◌, ◌++◌, [], ◌∷◌, length, drop, IfSome};
-ghost use Rattle.std.specs.Int.{w32, to_be_bytes};
+ghost use Rattle.std.specs.Int.{w16, w32, w64, to_be_bytes};
 ghost use Rattle.std.specs.List.{AllByRecursion};
 ghost use Rattle.rss_base.specs.LogRecords.{tid_bytes, place_bytes, sized_bytes, marks_bytes, tuple_bytes, chain_bytes, change_bytes, record_bytes, record_size, IsShort, HasPage, IsChangeBounded, IsBounded, IsSpellable, DoesChangeFit, DoesMarkFit, marks_most, longest_record};
 ghost use Rattle.rss_base.specs.declared.log_record.LogRecord.{LogRecord as SomeRecord};
 ghost use Rattle.rss_record.specs.Writing.{Puts};
 
 use crate::kinds::{ABORT, CHECKPOINT, CONNECT, DELETE, DISCONNECT, END, INSERT, RESTORE, UPDATE};
+use byteorder::{BigEndian, ByteOrder};
 use rss_base::{Body, Change, LogRecord, Marks, Tid};
 
 /// How many bytes hold any record.
@@ -40,7 +41,7 @@ fn put_restore(into: &mut RecordBytes, by: u32, position: u64) -> usize
     ensures end { result ≡ 13 }
 {
     let at = put_head(into, RESTORE, by);
-    put(into, at, &position.to_be_bytes())
+    put_u64(into, at, position)
 }
 
 fn put_checkpoint(into: &mut RecordBytes, marks: &Marks) -> usize
@@ -52,8 +53,8 @@ fn put_checkpoint(into: &mut RecordBytes, marks: &Marks) -> usize
     let marks = marks.as_slice();
     let mut end = put(into, 0, &[CHECKPOINT, marks.len() as u8]);
     for (by, position) in marks {
-        end = put(into, end, &by.to_be_bytes());
-        end = put(into, end, &position.to_be_bytes());
+        end = put_u32(into, end, *by);
+        end = put_u64(into, end, *position);
     }
     end
 }
@@ -149,7 +150,7 @@ fn put_head(into: &mut RecordBytes, kind: u8, by: u32) -> usize
     ensures end { result ≡ 5 }
 {
     let at = put(into, 0, &[kind]);
-    put(into, at, &by.to_be_bytes())
+    put_u32(into, at, by)
 }
 
 /// Writes an identifier, or six bytes of 255 where there is none.
@@ -171,8 +172,8 @@ fn put_tid(into: &mut RecordBytes, at: usize, tid: Tid) -> usize
     ensures end { result ≡ at + 6 }
     ensures fits { HasPage tid }
 {
-    let at = put(into, at, &tid.page.to_be_bytes());
-    put(into, at, &tid.slot.to_be_bytes())
+    let at = put_u32(into, at, tid.page);
+    put_u16(into, at, tid.slot)
 }
 
 /// Writes values behind their length.
@@ -183,8 +184,38 @@ fn put_values(into: &mut RecordBytes, at: usize, values: &Body) -> usize
     ensures end { result ≡ at + 2 + length values.now }
 {
     let bytes = values.as_slice();
-    let at = put(into, at, &(bytes.len() as u16).to_be_bytes());
+    let at = put_u16(into, at, bytes.len() as u16);
     put(into, at, bytes)
+}
+
+/// Writes a number in the two bytes from a place on, and answers the place behind them.
+fn put_u16(into: &mut RecordBytes, at: usize, number: u16) -> usize
+    requires { at + 2 ≤ RECORD_BYTES }
+    ensures written { Puts at (to_be_bytes w16 number) into.old into.new }
+    ensures end { result ≡ at + 2 }
+{
+    BigEndian::write_u16(&mut into[at..at + 2], number);
+    at + 2
+}
+
+/// The same in four bytes.
+fn put_u32(into: &mut RecordBytes, at: usize, number: u32) -> usize
+    requires { at + 4 ≤ RECORD_BYTES }
+    ensures written { Puts at (to_be_bytes w32 number) into.old into.new }
+    ensures end { result ≡ at + 4 }
+{
+    BigEndian::write_u32(&mut into[at..at + 4], number);
+    at + 4
+}
+
+/// And in eight.
+fn put_u64(into: &mut RecordBytes, at: usize, number: u64) -> usize
+    requires { at + 8 ≤ RECORD_BYTES }
+    ensures written { Puts at (to_be_bytes w64 number) into.old into.new }
+    ensures end { result ≡ at + 8 }
+{
+    BigEndian::write_u64(&mut into[at..at + 8], number);
+    at + 8
 }
 
 /// Writes bytes from a place on, and answers the place behind them.

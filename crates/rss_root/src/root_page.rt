@@ -8,7 +8,7 @@ ghost use Rattle.rss_base.specs.declared.root.Root.{Root as SomeRoot};
 
 use rss_base::{
     LOG_PAGES_LEAST, LOG_PAGES_MOST, PAGE_BYTES, PIECE_BYTES, Page, Root, SLOTS_LEAST, SLOTS_MOST,
-    Tail, VERSION, put_bytes, u32_at, u64_at,
+    Tail, VERSION, put_bytes, put_u32, put_u64, u32_at, u64_at,
 };
 
 /// Where the fields stand.
@@ -44,12 +44,12 @@ pub fn encode(root: &Root) -> Page
     let mut page = [0u8; PAGE_BYTES];
     put_bytes(&mut page, 0, b"RSSR\0");
     page[VERSION_AT] = root.version;
-    put_bytes(&mut page, SLOTS_AT, &root.slots.to_be_bytes());
-    put_bytes(&mut page, LOG_PAGES_AT, &root.log_pages.to_be_bytes());
+    put_u32(&mut page, SLOTS_AT, root.slots);
+    put_u32(&mut page, LOG_PAGES_AT, root.log_pages);
     page[AREA_AT] = root.area;
-    put_bytes(&mut page, HEAD_AT, &root.head.to_be_bytes());
-    put_bytes(&mut page, CHECKPOINT_AT, &root.checkpoint.to_be_bytes());
-    put_bytes(&mut page, END_AT, &root.end.to_be_bytes());
+    put_u64(&mut page, HEAD_AT, root.head);
+    put_u64(&mut page, CHECKPOINT_AT, root.checkpoint);
+    put_u64(&mut page, END_AT, root.end);
     put_bytes(&mut page, TAIL_AT, root.tail.as_slice());
     page
 }

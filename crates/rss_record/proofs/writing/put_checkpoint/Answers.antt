@@ -6,7 +6,7 @@ pub loop-by-preserved : goal.loop-by-preserved
 loop-by-preserved c = record {
   long = omega arith;
   end = omega arith;
-  puts = mark_put c.as_slice-marks.result.now c.loop-by.by-index _ _ _ c.loop-by-test.true (omega (arith, ap length c.as_slice-marks.ensures.marks)) c.loop-by.invariant.end (omega arith) (omega arith) (omega arith) c.loop-by.invariant.puts (rw c.to_be_bytes.ensures at c.put-end-in-loop-by.ensures.written) (rw c.to_be_bytes-in-loop-by.ensures at c.put-end-in-loop-by-2.ensures.written);
+  puts = mark_put c.as_slice-marks.result.now c.loop-by.by-index _ _ _ c.loop-by-test.true (omega (arith, ap length c.as_slice-marks.ensures.marks)) c.loop-by.invariant.end (omega arith) (omega arith) (omega arith) c.loop-by.invariant.puts c.put_u32-end.ensures.written c.put_u64-end.ensures.written;
   fits = mark_fits c.as_slice-marks.result.now c.loop-by.by-index (0, 0) c.loop-by-test.true c.loop-by.invariant.fits (omega arith, omega arith);
 }
 
