@@ -229,7 +229,6 @@ impl Shadow {
         ensures current { result.now ≡ self.now.current }
         ensures maps { AreMaps self.now }
     {
-        let _ = &self.used;
         &self.current
     }
 
