@@ -12,6 +12,7 @@ use crate::encoding::{
     FIELD_BYTES, IMAGE_BYTES, IMAGES_OF_PAGE, LINK_BYTES, LINKS_OF_PAGE, PLACE_BYTES,
     RELATION_BYTES, RELATIONS_OF_PAGE,
 };
+use byteorder::{BigEndian, ByteOrder};
 use rss_base::{
     FieldDef, FieldKind, Fields, ImageEntry, LinkEntry, MOST_FIELDS, NAME_BYTES, Name, Page,
     RelationEntry, SEGMENTS, Tid,
@@ -197,7 +198,7 @@ fn read_place(bytes: &[u8]) -> Option<Tid>
     ensures { result ≡ place_of bytes.now }
 {
     let page = read_number(&bytes[..4]);
-    let slot = u16::from_be_bytes([bytes[4], bytes[5]]);
+    let slot = BigEndian::read_u16(&bytes[4..]);
     if slot == u16::MAX {
         None
     } else {
@@ -209,7 +210,5 @@ fn read_number(bytes: &[u8]) -> u32
     requires { length bytes.now ≡ 4 }
     ensures { result ≡ from_be_bytes w32 bytes.now }
 {
-    let mut number = [0u8; 4];
-    number.copy_from_slice(bytes);
-    u32::from_be_bytes(number)
+    BigEndian::read_u32(bytes)
 }

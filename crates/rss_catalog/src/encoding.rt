@@ -10,6 +10,7 @@ ghost use Rattle.rss_base.specs.Listings.{link_bytes, link_spelled, parent_spell
 ghost use Rattle.rss_base.specs.Sizes.{segments};
 ghost use Rattle.rss_catalog.specs.Reading.{definition_bytes, definition_spelled, HasFewFields};
 
+use byteorder::{BigEndian, ByteOrder};
 use rss_base::{
     BoundedBytes, FieldDef, FieldKind, ImageEntry, LINKS_MOST, LinkEntry, NAME_BYTES, Name,
     PAGE_BYTES, Page, RelationEntry, Tid, put_bytes,
@@ -256,9 +257,10 @@ fn place_bytes(tid: Option<Tid>) -> [u8; PLACE_BYTES]
 {
     match tid {
         Some(tid) => {
-            let page = tid.page.to_be_bytes();
-            let slot = tid.slot.to_be_bytes();
-            [page[0], page[1], page[2], page[3], slot[0], slot[1]]
+            let mut bytes = [0; PLACE_BYTES];
+            BigEndian::write_u32(&mut bytes[..4], tid.page);
+            BigEndian::write_u16(&mut bytes[4..], tid.slot);
+            bytes
         }
         None => [u8::MAX; PLACE_BYTES],
     }

@@ -11,7 +11,7 @@ ghost use Rattle.rss_entries.specs.Keyed.{kinds_of};
 ghost use Rattle.rss_entries.specs.Seeking.{IsOwnerIn, IsNextIn};
 
 use crate::moving::KeyFields;
-use rss_base::{Key, PageFault, Pages, Tid};
+use rss_base::{Key, PageFault, Pages, Tid, tid_is_spelled};
 use rss_image::Image;
 use rss_value::key as write_key;
 
@@ -36,13 +36,11 @@ pub fn find_owner<P: Pages>(
     ensures did { PagesCall no_page (2 * (image.now.levels + 1)) (2 * (image.now.levels + 1))
         (P.view pages.old) (P.view pages.new) result }
 {
-    // A number of four bytes, which bounds the numbers of pages.
-    let _slots = pages.slots();
     let mut bytes = Key::new();
     write_key(key.fields, key.which, values, &mut bytes);
-    is_tid_sized(own);
+    tid_is_spelled(own);
     let found = image.another(pages, &bytes, own)?;
-    is_tid_sized(found);
+    tid_is_spelled(found);
     Ok(found)
 }
 
@@ -66,26 +64,19 @@ pub fn next_pair<P: Pages>(
     ensures did { PagesCall no_page (image.now.levels + 1) (image.now.levels + 1)
         (P.view pages.old) (P.view pages.new) result }
 {
-    // A number of four bytes, which bounds the numbers of pages.
-    let _slots = pages.slots();
     let found = match last {
         Some((key, tid)) => image.after(pages, key, *tid)?,
         None => image.seek(pages, start)?,
     };
-    is_pair_sized(&found);
+    is_pair_spelled(&found);
     Ok(found)
 }
 
-/// A tuple's identifier can be spelled, since its numbers have four bytes and two.
-fn is_tid_sized(tid: Option<Tid>)
-    ensures { IfSome tid IsSpelledTid }
-{}
-
-/// And so can that of a pair.
-fn is_pair_sized(found: &Option<(Key, Tid)>)
+/// The identifier of a pair, if there is one, is spelled by its bytes. It does nothing.
+fn is_pair_spelled(found: &Option<(Key, Tid)>)
     ensures { IfSome found.now (λ pair. IsSpelledTid pair.1) }
 {
     if let Some((_, tid)) = found {
-        is_tid_sized(Some(*tid));
+        tid_is_spelled(Some(*tid));
     }
 }

@@ -20,8 +20,7 @@ another-requires-clause-long g c =
 pub returns-clause-owner : goal.returns-clause-owner
 returns-clause-owner g c = λ told listing tables number entry relation shows image_is key_is single values spelled.
     let view = g.P.Pages.view c.args.pages.now in
-    let few : view.slots < 4294967296 = subst (λ (n : ℕ). n < 4294967296) c.slots-slots.ensures c.slots-slots.type_inv in
-    let tree = shown_tree view shows few (g.met.P.Pages.holds c.args.pages.now told) (g.met.P.Pages.allowed c.args.pages.now) in
+    let tree = shown_tree view shows (g.met.P.Pages.few_slots c.args.pages.now) (g.met.P.Pages.holds c.args.pages.now told) (g.met.P.Pages.allowed c.args.pages.now) in
     let fields : kinds c.args.key.fields.now ≡ kinds relation.fields = ap (λ (k : KeyKinds). k.fields) key_is in
     let which : c.args.key.which.now ≡ field_numbers entry = ap (λ (k : KeyKinds). k.which) key_is in
     let given : Spells (kinds c.args.key.fields.now) c.args.values.now values = subst (λ (ks : List FieldForm). Spells ks c.args.values.now values) (sym fields) spelled in
@@ -30,4 +29,4 @@ returns-clause-owner g c = λ told listing tables number entry relation shows im
     subst (λ (ks : List FieldForm). IsKeyOf ks (chosen (field_numbers entry) values) c.key.new.into) kinds_are
     (subst (λ (ns : List ℕ). IsKeyOf (chosen c.args.key.which.now (kinds c.args.key.fields.now)) (chosen ns values) c.key.new.into) which (c.key.ensures values given)) in
     let another = subst (λ (i : Image). FindsAnother c.key.new.into c.args.own i view c.in_ok-found.found) image_is (c.in_ok-found.ensures.found told) in
-    owner_found (shown shows) values c.key.new.into made c.args.own c.in_ok-found.found c.is_tid_sized.ensures c.is_tid_sized-2.ensures single (another _ tree)
+    owner_found (shown shows) values c.key.new.into made c.args.own c.in_ok-found.found c.tid_is_spelled.ensures c.tid_is_spelled-2.ensures single (another _ tree)
