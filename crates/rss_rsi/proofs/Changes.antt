@@ -29,7 +29,7 @@ use Rattle.rss_model.specs.ReplyText.{IsShort}
 use Rattle.rss_model.specs.Ruled.{ruled}
 use Rattle.rss_model.specs.Rules.{Verdict, GoesOn as GoesOnAsIs, SavesFirst, NoRoom, NoLogRoom, ruling, refusal_by, if_no_room}
 use Rattle.rss_model.specs.Steps.{IsOver, Step, keeps_locks, refusal}
-use Rattle.rss_stored.proofs.Endings.{refused_by, comes_to}
+use Rattle.rss_stored.proofs.Endings.{refused_by, comes_to, lacks_no_end}
 use Rattle.rss_stored.proofs.Listed.{fields_listed}
 use Rattle.rss_stored.proofs.LogCounting.{change_told_size}
 use Rattle.rss_stored.proofs.Totals.{stops}
@@ -51,7 +51,7 @@ use Rattle.rss_rsi.specs.Changing.{RulesSay, StillShows, ChangeEnds, IsChangeOf}
 use Rattle.rss_rsi.specs.Placing.{MayCost}
 use Rattle.rss_rsi.specs.Views.{RssParts, IsIn, engine_view}
 use Rattle.rss_rsi.proofs.Spelled.{still_scans}
-use Rattle.rss_rsi.proofs.Ways.{SameHeld, shows_locked, in_held, in_left, left_same, goes, LeadsAll, answers, keeps_same}
+use Rattle.rss_rsi.proofs.Ways.{SameHeld, shows_locked, in_held, in_left, left_same, goes_bounded, LeadsAll, answers, keeps_same}
 
 -- ---- what was weighed
 
@@ -195,7 +195,7 @@ module _ {first : RssParts} {mid : SessionView} {after : Locks} {t : ℕ} {told_
 
   module _ (new : RssParts) {U : Type 0} {up_now : Type 0} {made : Result U CallError} (change : IsChangeOf mid new.session up_now t told_change made) where
     goes_all : {n m : ℕ} {up : Type 0} → m ≤ n + 1 → GoesOn (engine_view first n up) (engine_view new m up_now) call
-    goes_all calls = goes (Ok tt) (goes_then looks.goes change.goes) calls
+    goes_all calls = goes_bounded (Ok tt) (lacks_no_end call by_change.may.stop.memory) (goes_then looks.goes change.goes) calls
         (subst (λ (most : Option ℕ). RisesAtMost most first.session.store.pages.asks new.session.store.pages.asks) (sym by_change.may.asks) tt)
         (subst (λ (most : Option ℕ). RisesAtMost most first.session.store.pages.writes new.session.store.pages.writes) (sym by_change.may.writes) tt)
 

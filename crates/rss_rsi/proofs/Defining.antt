@@ -18,8 +18,8 @@ use Rattle.rss_base.specs.declared.fault.PageFault.{PageFault}
 use Rattle.rss_base.specs.declared.fault.PageFault.TheVariants.{Damaged as PageDamaged}
 use Rattle.rss_base.specs.declared.place.Place.{Place}
 use Rattle.rss_base.specs.declared.refusal.Refusal.{Refusal}
-use Rattle.rss_stored.specs.Calls.{EngineView, GoesOn, IsCallOf, calls_most}
-use Rattle.rss_model.specs.Costs.{RisesAtMost, most_asks, most_writes}
+use Rattle.rss_stored.specs.Calls.{EngineView, MayWrite, GoesOn, IsCallOf, calls_most}
+use Rattle.rss_model.specs.Costs.{RisesAtMost, most_asks}
 use Rattle.rss_model.specs.Defining.{defined, DefinesNames}
 use Rattle.rss_model.specs.Machine.{State}
 use Rattle.rss_model.specs.Steps.{Step, refusal, redefined}
@@ -60,7 +60,7 @@ no_asks before now same (link name parent child number entry at fresh least empt
 no_asks before now same (drop_link number entry at empty) = omega (arith, same)
 
 -- and of its writes no bound is claimed
-any_writes : {old new : Listing} {call : Call} (before now : ℕ) → Relists old call new → RisesAtMost (most_writes call) before now
+any_writes : {old new : Listing} {call : Call} (before now : EngineView) → Relists old call new → MayWrite before now call
 any_writes before now (segment name number fresh least) = tt
 any_writes before now (relation name in_segment fields at number within fresh least) = tt
 any_writes before now (drop_segment name number at none) = tt
@@ -156,9 +156,9 @@ module _ {S : Type 0} (pages_view : S → PagesView) {to : Definition S} {now : 
       on_before = but_listed now.store.catalog (subst (λ (v : SessionView). SessionGoesOn v new result) (sym (but_catalog pages_view redefines)) on)
 
       pub goes_redefining : {up_now : Type 0} → GoesOn (view_of pages_view to) (engine_view (with_held new) calls up_now) to.call
-      goes_redefining = goes result on_before (omega (arith, is.counted))
+      goes_redefining {up_now = up_now} = goes result on_before (omega (arith, is.counted))
           (no_asks before.session.store.pages.asks new.store.pages.asks (asks ∙ ap (λ (p : PagesView). p.asks) pages_same) redefines.relists)
-          (any_writes before.session.store.pages.writes new.store.pages.writes redefines.relists)
+          (any_writes (view_of pages_view to) (engine_view (with_held new) calls up_now) redefines.relists)
 
       module _ (told : IsTold before.session.store.pages.disk) (state : State) (is_in : IsIn before state) where
         abbrev next : Tables

@@ -51,7 +51,7 @@ pub record DefinesAny (call : Call) : Type 0 where
 
 pub any_image : {name relation : Name} {is_unique : Bool} {fields : List Name} → DefinesAny (MakeImage name relation is_unique fields)
 any_image {name = name} {relation = relation} {is_unique = is_unique} {fields = fields} = record {
-  costs = record { asks = refl; writes = refl };
+  costs = record { of_none = refl; asks = refl; writes = refl };
   bare = λ tables. refl;
   memory = refl;
   so = λ state. (with_definitions (with_image state.base.definitions name (image_def relation is_unique fields)) state.base, refl);

@@ -30,7 +30,7 @@ use Rattle.rss_model.specs.Steps.StepBy.{defines, refuses}
 use Rattle.rss_stored.specs.Store.{OpensToEither}
 use Rattle.rss_model.specs.Tables.{Tables}
 use Rattle.rss_stored.specs.Turns.{IsStopped}
-use Rattle.rss_stored.proofs.Endings.{comes_to, IsDefined, defined_by}
+use Rattle.rss_stored.proofs.Endings.{comes_to, none_no_end, IsDefined, defined_by}
 use Rattle.rss_model.proofs.StepKeeping.{steps_keep}
 use Rattle.rss_stored.proofs.Totals.{definition_stops}
 use Rattle.rss_lock.specs.Locks.{LocksView}
@@ -53,15 +53,15 @@ use Rattle.rss_rsi.specs.Imaging.{CostsAny, IsListed, IsRelisted, MayRedefine}
 use Rattle.rss_rsi.specs.Views.{RssParts, IsIn, engine_view, IsReady}
 use Rattle.rss_rsi.proofs.Defining.{none_open_in}
 use Rattle.rss_rsi.proofs.Spelled.{none_open, none_scanning, still_scans, vacant}
-use Rattle.rss_rsi.proofs.Ways.{MayStep, ScanTable, goes, failed_within, ready_then, refused_test, rss_parts, opened_stay, holders_stay}
+use Rattle.rss_rsi.proofs.Ways.{MayStep, ScanTable, goes_bounded, failed_within, ready_then, refused_test, rss_parts, opened_stay, holders_stay}
 
 -- where no bound is claimed
 rises_any : {most : Option ℕ} (before now : ℕ) → most ≡ None → RisesAtMost most before now
 rises_any before now none = subst (λ (most : Option ℕ). RisesAtMost most before now) (sym none) tt
 
 pub goes_any : {T : Type 0} {old new : RssParts} {n m : ℕ} {up up_now : Type 0} {call : Call} {result : Result T PageFault} → CostsAny call → SessionGoesOn old.session new.session result → m ≤ n + 1 → GoesOn (engine_view old n up) (engine_view new m up_now) call
-goes_any {old = old} {new = new} {result = result} costs on calls =
-    goes result on calls (rises_any old.session.store.pages.asks new.session.store.pages.asks costs.asks)
+goes_any {old = old} {new = new} {call = call} {result = result} costs on calls =
+    goes_bounded result (none_no_end call costs.of_none) on calls (rises_any old.session.store.pages.asks new.session.store.pages.asks costs.asks)
     (rises_any old.session.store.pages.writes new.session.store.pages.writes costs.writes)
 
 -- a call that defines may make a step: it is refused, or it defines

@@ -30,7 +30,7 @@ use Rattle.rss_model.specs.Needs.{needs}
 use Rattle.rss_model.specs.ReplyText.{IsShort}
 use Rattle.rss_model.specs.Steps.{keeps_locks, refusal, unless_live}
 use Rattle.rss_model.specs.Tables.{content}
-use Rattle.rss_stored.proofs.Endings.{comes_to}
+use Rattle.rss_stored.proofs.Endings.{comes_to, lacks_no_end}
 use Rattle.rss_model.proofs.StepKeeping.{kept_fit}
 use Rattle.rss_model.proofs.Tests.{refuses_unless}
 use Rattle.rss_session.specs.Calls.{GoesOn as SessionGoesOn}
@@ -51,7 +51,7 @@ use Rattle.rss_rsi.proofs.Claims.{bars_as, claim_fails}
 use Rattle.rss_rsi.proofs.KeyLocks.{refused_keeping}
 use Rattle.rss_rsi.proofs.LinkTests.{IsLinked, linked_busy}
 use Rattle.rss_rsi.proofs.Looks.{costly_fails, goes_costly, lacks_costly}
-use Rattle.rss_rsi.proofs.Ways.{SameHeld, goes}
+use Rattle.rss_rsi.proofs.Ways.{SameHeld, goes_bounded}
 
 -- ---- tests that look at pages
 
@@ -163,7 +163,7 @@ test_lacks {old = old} {new = new} {up = up} {U = U} relation name tid why is sh
 
 module _ (first new : RssParts) {mid : SessionView} {S : Type 0} {found : S} (looks : LooksOn first.session mid (Ok found)) {n m : ℕ} (calls : m ≤ n + 1) {up up_now : Type 0} (was_up : up) {call : Call} (may : MayCost call) {t : ℕ} (by : caller call ≡ Some t) where
   goes_broken : SessionGoesOn {T = Unit {0}} mid new.session (Ok tt) → GoesOn (engine_view first n up) (engine_view new m up_now) call
-  goes_broken on = goes (Ok tt) (goes_then looks.goes on) calls
+  goes_broken on = goes_bounded (Ok tt) (lacks_no_end call may.stop.memory) (goes_then looks.goes on) calls
       (subst (λ (most : Option ℕ). RisesAtMost most first.session.store.pages.asks new.session.store.pages.asks) (sym may.asks) tt)
       (subst (λ (most : Option ℕ). RisesAtMost most first.session.store.pages.writes new.session.store.pages.writes) (sym may.writes) tt)
 

@@ -36,7 +36,7 @@ use Rattle.rss_model.specs.Needs.{needs}
 use Rattle.rss_model.specs.ReplyText.{IsShort}
 use Rattle.rss_model.specs.Steps.{HasValues}
 use Rattle.rss_model.specs.Tables.{Tables, content}
-use Rattle.rss_stored.proofs.Endings.{comes_to, within_most}
+use Rattle.rss_stored.proofs.Endings.{comes_to, within_most, lacks_no_end}
 use Rattle.rss_model.proofs.StepKeeping.{kept_fit}
 use Rattle.rss_stored.proofs.Totals.{stops}
 use Rattle.rss_access.specs.Bodies.{IsBodyOf}
@@ -60,7 +60,7 @@ use Rattle.rss_rsi.specs.Placing.{FailsToLook, MayCost}
 use Rattle.rss_rsi.specs.declared.locking.Access.{Access}
 use Rattle.rss_rsi.proofs.Claims.{bars_as, locked_as, claim_fails}
 use Rattle.rss_session.proofs.StaysOpen.{same_listed}
-use Rattle.rss_rsi.proofs.Ways.{SameHeld, ScanTable, asked, failed_within, goes, holders_stay, in_held, lacks_behind, refused_behind, rss_parts, scans_stay}
+use Rattle.rss_rsi.proofs.Ways.{SameHeld, ScanTable, asked, failed_within, goes_bounded, holders_stay, in_held, lacks_behind, refused_behind, rss_parts, scans_stay}
 
 -- ---- what a look passes on
 
@@ -84,7 +84,7 @@ lists_before old mid wanted looks held lists told state is_in =
 
 module _ {T : Type 0} {old new : RssParts} {result : Result T PageFault} (looks : LooksOn old.session new.session result) (costs : CostsTwo old.session new.session) {call : Call} (may : MayLook call) {n m : ℕ} (calls : m ≤ n + 1) where
   pub goes_looked : {up up_now : Type 0} → GoesOn (engine_view old n up) (engine_view new m up_now) call
-  goes_looked = goes result looks.goes calls
+  goes_looked = goes_bounded result (lacks_no_end call may.stop.memory) looks.goes calls
       (within_most (most_asks call) 2 old.session.store.pages.asks new.session.store.pages.asks may.asks costs.asks_high)
       (within_most (most_writes call) (run_pages * 2) old.session.store.pages.writes new.session.store.pages.writes may.writes costs.writes_high)
 
@@ -96,7 +96,7 @@ module _ {T : Type 0} {old new : RssParts} {result : Result T PageFault} (looks 
 
 module _ (old new : RssParts) {T : Type 0} {result : Result T PageFault} (looks : LooksOn old.session new.session result) {n m : ℕ} (calls : m ≤ n + 1) {up up_now : Type 0} {call : Call} (may : MayCost call) where
   pub goes_costly : GoesOn (engine_view old n up) (engine_view new m up_now) call
-  goes_costly = goes result looks.goes calls
+  goes_costly = goes_bounded result (lacks_no_end call may.stop.memory) looks.goes calls
       (subst (λ (most : Option ℕ). RisesAtMost most old.session.store.pages.asks new.session.store.pages.asks) (sym may.asks) tt)
       (subst (λ (most : Option ℕ). RisesAtMost most old.session.store.pages.writes new.session.store.pages.writes) (sym may.writes) tt)
 

@@ -2,19 +2,23 @@
 use Rattle.std.proofs.Common.{◌≡◌, ℕ, ◌+◌, ◌^◌, ◌<◌, ◌≤◌, true, List, [], length, refl, sym, ◌∙◌, ap, subst, arith, length-append}
 use Rattle.std.specs.Prelude.{None, Ok, codes, decimal}
 use Rattle.std.proofs.lemmas.Fmt.{length-decimal-le}
-use Rattle.rss_base.specs.DiskRule.{IsTold}
+use Rattle.rss_base.specs.DiskRule.{IsTold, WritesIn}
 use Rattle.rss_base.specs.declared.call.Call.TheVariants.{Begin, Save, Restore, End, Abort, Checkpoint}
 use Rattle.rss_base.specs.declared.answer.Reply.TheVariants.{Ok as Done, Number}
+use Rattle.rss_base.specs.declared.root.Root.{Root}
+use Rattle.rss_base.proofs.Moments.{writes_among}
 use Rattle.rss_model.specs.Changes.{own}
 use Rattle.rss_model.specs.Kept.{Kept, FitMixed}
 use Rattle.rss_model.specs.Locks.{released}
 use Rattle.rss_model.specs.Machine.{State}
+use Rattle.rss_model.specs.Meter.{end_size}
 use Rattle.rss_model.specs.Refusals.{unless_saved}
 use Rattle.rss_model.specs.ReplyText.{answer_line}
 use Rattle.rss_model.specs.Rules.{saved_now, if_no_log_room}
 use Rattle.rss_model.specs.Scans.{closed}
 use Rattle.rss_model.specs.Steps.{Step, refusal, unless_open, begun, with_save, restored, gone, ended, committing, left_at, undone_to}
 use Rattle.rss_model.specs.Steps.StepBy.{begins, saves, restores, ends, aborts, checkpoints}
+use Rattle.rss_stored.specs.Calls.{MayWrite}
 use Rattle.rss_stored.specs.Turns.{IsStopped}
 use Rattle.rss_model.proofs.StepKeeping.{steps_keep}
 use Rattle.rss_model.proofs.Tests.{goes_on}
@@ -23,11 +27,12 @@ use Rattle.rss_scan.specs.Scans.{closed_for}
 use Rattle.rss_rsi.proofs.Spelled.{closed_scans, still_scans}
 use Rattle.rss_trans.specs.Transactions.{is_open, transaction_in}
 use Rattle.rss_trans.proofs.Told.{open_saves}
+use Rattle.rss_store.specs.Commits.{IsEndPlace, new_pieces, selector as at_selector, root as at_root, piece as at_piece}
 use Rattle.rss_session.specs.Admissions.{Says}
-use Rattle.rss_session.specs.Calls.{KeepsTables, CommitsTables, HasMarks, Restores, Aborts}
+use Rattle.rss_session.specs.Calls.{Appends, KeepsTables, CommitsTables, HasMarks, Restores, Aborts}
 use Rattle.rss_session.specs.Sessions.{SessionView}
 use Rattle.rss_session.specs.Shown.{Shows}
-use Rattle.rss_rsi.specs.Views.{RssParts, AreScans, IsIn}
+use Rattle.rss_rsi.specs.Views.{RssParts, AreScans, IsIn, end_after, engine_view}
 use Rattle.rss_rsi.proofs.Ways.{SameHeld, Leads, LeadsAll, stopped_by, leads_by, leads_held, keeps_same}
 
 -- an open transaction has the save points that are listed
@@ -136,6 +141,17 @@ module _ (old new : RssParts) (t : ℕ) (passes : Says old.session (λ state. un
           scanned = closed_so scans is_in;
           moments = commits told state is_in.kept fits is_in.shows;
         }
+
+-- an end that comes no later has no other places
+end_places_grow : {number : ℕ} {root : Root} {end later : ℕ} → end ≤ later → (q : ℕ) → IsEndPlace number root end q → IsEndPlace number root later q
+end_places_grow grows q (at_selector is) = at_selector is
+end_places_grow grows q (at_root is) = at_root is
+end_places_grow grows q (at_piece piece) = at_piece (record { index = piece.index; low = piece.low; high = omega (arith, piece.high, grows); is = piece.is })
+
+-- it writes no more than it may
+pub end_writes : (old new : RssParts) {n m : ℕ} {up up_now : Type 0} (t : ℕ) → WritesIn (IsEndPlace old.session.store.number old.session.store.root new.session.store.log.end) old.session.store.pages.disk new.session.store.pages.disk
+    → new.session.store.pages.writes ≤ old.session.store.pages.writes + new_pieces old.session.store.root (end_after old) + 2 → Appends end_size old.session new.session → MayWrite (engine_view old n up) (engine_view new m up_now) (End t)
+end_writes old new t only writes appends = (writes_among (end_places_grow appends) only, omega (arith, writes))
 
 -- ---- checkpoints
 

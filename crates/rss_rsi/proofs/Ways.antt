@@ -9,6 +9,7 @@ use Rattle.rss_base.specs.DiskRule.{IsTold, Passes, Continues}
 use Rattle.rss_base.specs.Steps.{PagesView}
 use Rattle.rss_base.specs.Answers.{page_error}
 use Rattle.rss_base.specs.declared.call.Call.{Call}
+use Rattle.rss_base.specs.declared.call.Call.TheVariants.{End}
 use Rattle.rss_base.specs.declared.answer.Reply.{Reply}
 use Rattle.rss_base.specs.declared.answer.CallError.{CallError}
 use Rattle.rss_base.specs.declared.answer.CallError.TheVariants.{Refused, NoMemory}
@@ -22,7 +23,7 @@ use Rattle.rss_base.specs.declared.refusal.Refusal.{Refusal}
 use Rattle.rss_base.proofs.Moments.{started, widened}
 use Rattle.rss_lock.specs.Table.{told}
 use Rattle.rss_lock.specs.declared.locks.Locks.{Locks as LockTable}
-use Rattle.rss_stored.specs.Calls.{EngineView, GoesOn, GetsPlace, IsAnswer, IsCallOf}
+use Rattle.rss_stored.specs.Calls.{EngineView, MayWrite, GoesOn, GetsPlace, IsAnswer, IsCallOf}
 use Rattle.rss_model.specs.Costs.{RisesAtMost, most_asks, most_writes, may_lack_memory}
 use Rattle.rss_model.specs.Locks.{Locks, held, granted, released}
 use Rattle.rss_model.specs.Machine.{State, now}
@@ -34,7 +35,7 @@ use Rattle.rss_model.specs.Callers.{caller}
 use Rattle.rss_stored.specs.Store.{OpensToEither}
 use Rattle.rss_model.specs.Tables.{Definitions, Tables}
 use Rattle.rss_stored.specs.Turns.{IsStopped}
-use Rattle.rss_stored.proofs.Endings.{within_most, refused_by, comes_to, failed}
+use Rattle.rss_stored.proofs.Endings.{within_most, none_within, writes_no_more, writes_bound, refused_by, comes_to, failed}
 use Rattle.rss_model.proofs.Committing.{left_base}
 use Rattle.rss_model.proofs.Locking.{released_was}
 use Rattle.rss_model.proofs.OpenKeeping.{keeps_refused}
@@ -139,13 +140,9 @@ left_bare {state = state} call why none is_in = so (keeps_locks why) (caller cal
 
 -- ---- what goes on
 
-none_within : (most : Option ℕ) → IfSome most (λ m. 0 ≤ m)
-none_within None = tt
-none_within (Some m) = omega arith
-
 -- with what the call costs
 pub goes : {T : Type 0} {old new : RssParts} {n m : ℕ} {up up_now : Type 0} {call : Call} (result : Result T PageFault) → SessionGoesOn old.session new.session result → m ≤ n + 1
-    → RisesAtMost (most_asks call) old.session.store.pages.asks new.session.store.pages.asks → RisesAtMost (most_writes call) old.session.store.pages.writes new.session.store.pages.writes
+    → RisesAtMost (most_asks call) old.session.store.pages.asks new.session.store.pages.asks → MayWrite (engine_view old n up) (engine_view new m up_now) call
     → GoesOn (engine_view old n up) (engine_view new m up_now) call
 goes result on calls asks writes = record {
   asks = asks;
@@ -157,11 +154,18 @@ goes result on calls asks writes = record {
   later = on.later;
 }
 
+-- with what a call costs that is no end
+pub goes_bounded : {T : Type 0} {old new : RssParts} {n m : ℕ} {up up_now : Type 0} {call : Call} (result : Result T PageFault) → ((t : ℕ) → call ≡ End t → ⊥) → SessionGoesOn old.session new.session result → m ≤ n + 1
+    → RisesAtMost (most_asks call) old.session.store.pages.asks new.session.store.pages.asks → RisesAtMost (most_writes call) old.session.store.pages.writes new.session.store.pages.writes
+    → GoesOn (engine_view old n up) (engine_view new m up_now) call
+goes_bounded {old = old} {new = new} {n = n} {m = m} {up = up} {up_now = up_now} {call = call} result other on calls asks writes =
+    goes result on calls asks (writes_bound (engine_view old n up) (engine_view new m up_now) call other writes)
+
 -- of the store nothing has changed
 pub goes_nowhere : {old new : RssParts} {n m : ℕ} {up up_now : Type 0} (call : Call) → new.session.store ≡ old.session.store → m ≤ n + 1 → GoesOn (engine_view old n up) (engine_view new m up_now) call
-goes_nowhere {old = old} call same calls = record {
+goes_nowhere {old = old} {new = new} {n = n} {m = m} {up = up} {up_now = up_now} call same calls = record {
   asks = within_most (most_asks call) 0 old.session.store.pages.asks _ (none_within (most_asks call)) (omega (arith, ap (λ (s : StoreView). s.pages.asks) same));
-  writes = within_most (most_writes call) 0 old.session.store.pages.writes _ (none_within (most_writes call)) (omega (arith, ap (λ (s : StoreView). s.pages.writes) same));
+  writes = writes_no_more (engine_view old n up) (engine_view new m up_now) call (ap (λ (s : StoreView). s.pages.disk) same) (ap (λ (s : StoreView). s.pages.writes) same);
   calls = calls;
   slots = ap (λ (s : StoreView). s.root.slots) same;
   told = λ told. subst (λ (s : StoreView). IsTold s.pages.disk) (sym same) told;

@@ -8,6 +8,7 @@ use Rattle.rss_base.specs.declared.answer.CallError.TheVariants.{Refused, Damage
 use Rattle.rss_base.specs.declared.call.Call.{Call}
 use Rattle.rss_base.specs.declared.fault.PageFault.TheVariants.{Device as DeviceFailed, Damaged as PageDamaged}
 use Rattle.rss_stored.specs.Calls.{calls_most}
+use Rattle.rss_model.specs.Callers.{caller}
 use Rattle.rss_model.specs.Costs.{most_asks, most_writes}
 use Rattle.rss_model.specs.Defining.{defined, DefinesNames}
 use Rattle.rss_model.specs.Kept.{Kept}
@@ -43,8 +44,9 @@ pub record IsRelisted (call : Call) (old new : SessionView) : Type 0 where
   pub redefines : IsTold old.store.pages.disk → (state : State) → Kept state → Shows old state
       → MayRedefine state call new
 
--- no bound is claimed of what the call costs
+-- no bound is claimed of what the call costs, and it is no transaction's
 pub record CostsAny (call : Call) : Type 0 where
+  pub of_none : caller call ≡ None
   pub asks : most_asks call ≡ None
   pub writes : most_writes call ≡ None
 

@@ -22,6 +22,7 @@ use Rattle.rss_model.specs.Images.{Entry, key_kinds}
 use Rattle.rss_model.specs.Kept.{Kept}
 use Rattle.rss_model.specs.Locks.{held}
 use Rattle.rss_model.specs.Machine.{State}
+use Rattle.rss_model.specs.Meter.{end_size}
 use Rattle.rss_model.specs.Scans.{Scans, RelationPath, ImagePath, LinkPath}
 use Rattle.rss_model.specs.Scans.{Path as MachinePath, Scan as MachineScan}
 use Rattle.rss_model.specs.Tables.{ImageDef, Definitions, fields_in}
@@ -32,6 +33,7 @@ use Rattle.rss_scan.specs.declared.cursor.Path.{Path}
 use Rattle.rss_scan.specs.declared.cursor.Path.TheVariants.{Relation, Image, Link}
 use Rattle.rss_scan.specs.declared.cursor.Scan.{Scan}
 use Rattle.rss_trans.specs.Transactions.{OpenView, is_open, transaction_in}
+use Rattle.rss_store.specs.Commits.{IsEndPlace, new_pieces}
 use Rattle.rss_session.specs.Imaging.{IsKeyLong}
 use Rattle.rss_session.specs.Sessions.{SessionView}
 use Rattle.rss_session.specs.Sessions.{IsReady as IsSessionReady}
@@ -114,6 +116,10 @@ pub record MayStandAt (pages : PagesView) (listing : Listing) (relation : Name) 
   pub named : entry.name ≡ relation
   pub chosen : IsChosen pages entry.segment (body_length listing number (length (tuple_bytes (kinds entry.fields) values))) barred tid
 
+-- where the log ends behind an end
+abbrev pub end_after : RssParts → ℕ
+end_after parts = parts.session.store.log.end + end_size
+
 -- an engine of these parts, which was asked for so many calls
 abbrev pub engine_view : RssParts → ℕ → Type 0 → EngineView
 engine_view parts calls is_up = record {
@@ -126,6 +132,8 @@ engine_view parts calls is_up = record {
   asks = parts.session.store.pages.asks;
   writes = parts.session.store.pages.writes;
   faults = parts.session.store.pages.faults;
+  end_places = IsEndPlace parts.session.store.number parts.session.store.root (end_after parts);
+  end_most = new_pieces parts.session.store.root (end_after parts) + 2;
 }
 
 -- ---- between two calls

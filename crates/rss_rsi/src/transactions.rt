@@ -1,12 +1,9 @@
 // The calls on transactions.
-ghost use Rattle.std.specs.Prelude.{◌≡◌, ◌+◌, ◌<◌, ◌≤◌, length, IsErrOf};
-ghost use Rattle.rss_base.specs.DiskRule.{WritesIn};
+ghost use Rattle.std.specs.Prelude.{◌≡◌, ◌<◌, length, IsErrOf};
 ghost use Rattle.rss_base.specs.declared.answer.CallError.TheVariants.{NoMemory};
 ghost use Rattle.rss_base.specs.declared.call.Call.TheVariants.{Begin, Save, Restore, End, Abort, Checkpoint};
 ghost use Rattle.rss_stored.specs.Calls.{calls_most};
-ghost use Rattle.rss_model.specs.Meter.{end_size};
 ghost use Rattle.rss_trans.specs.Transactions.{transaction_in};
-ghost use Rattle.rss_store.specs.Commits.{IsEndPlace, new_pieces};
 
 use crate::Rss;
 use rss_base::{CallError, Reply};
@@ -66,12 +63,6 @@ impl<S: Saving> Rss<S> {
         ensures did { IsCallOf (view self.old) (view self.new) (End transaction) result }
         ensures untouched { ((view self.old).is_up → ⊥) → self.new ≡ self.old }
         ensures memory { IsErrOf result NoMemory → ⊥ }
-        ensures only { WritesIn (IsEndPlace (session_of self.old).store.number
-            (session_of self.old).store.root (session_of self.new).store.log.end)
-            (view self.old).disk (view self.new).disk }
-        ensures writes { (view self.new).writes ≤ (view self.old).writes
-            + new_pieces (session_of self.old).store.root
-            ((session_of self.old).store.log.end + end_size) + 2 }
         ensures still { length (transaction_in (session_of self.old).opened transaction).changes ≡ 0
             → store_of self.new ≡ store_of self.old }
     {

@@ -1,12 +1,13 @@
 -- The ways in which a call on an engine ends.
 use Rattle.std.proofs.Common.{◌≡◌, inl, ℕ, ◌≤◌, ◌+◌, Option, Some, None, refl, sym, ◌∙◌, ap, subst, arith}
-use Rattle.std.specs.Prelude.{Result, Ok, Err, IsErrAnd, IsErrOf, IfSome}
+use Rattle.std.specs.Prelude.{true, Result, Ok, Err, IsErrAnd, IsErrOf, IfSome}
+use Rattle.std.proofs.lemmas.Bool.{true≢false}
 use Rattle.std.proofs.lemmas.Result.{err_from_is_err_and}
-use Rattle.rss_base.specs.DiskRule.{IsTold, Passes, Continues}
+use Rattle.rss_base.specs.DiskRule.{IsTold, Passes, WritesIn}
 use Rattle.rss_base.specs.Answers.{page_error}
 use Rattle.rss_base.specs.Faults.{Rises}
 use Rattle.rss_base.specs.declared.call.Call.{Call}
-use Rattle.rss_base.specs.declared.call.Call.TheVariants.{Insert}
+use Rattle.rss_base.specs.declared.call.Call.TheVariants.{Insert, End}
 use Rattle.rss_base.specs.declared.answer.Reply.{Reply}
 use Rattle.rss_base.specs.declared.answer.Reply.TheVariants.{Ok as Done}
 use Rattle.rss_base.specs.declared.answer.CallError.{CallError}
@@ -15,8 +16,9 @@ use Rattle.rss_base.specs.declared.fault.PageFault.{PageFault}
 use Rattle.rss_base.specs.declared.place.Place.{Place}
 use Rattle.rss_base.specs.declared.fault.PageFault.TheVariants.{Device as PageDevice, Damaged as PageDamaged, NoMemory as PageNoMemory}
 use Rattle.rss_base.specs.declared.refusal.Refusal.{Refusal}
-use Rattle.rss_base.proofs.Moments.{started, widened}
+use Rattle.rss_base.proofs.Moments.{widened, writes_none}
 use Rattle.rss_stored.specs.Turns.{IsStopped}
+use Rattle.rss_model.specs.Callers.{caller}
 use Rattle.rss_model.specs.Machine.{State}
 use Rattle.rss_model.specs.Tables.{Tables}
 use Rattle.rss_model.specs.Defining.{defined, DefinesNames}
@@ -24,33 +26,34 @@ use Rattle.rss_model.specs.Steps.{refusal, left_by, redefined}
 use Rattle.rss_model.specs.Steps.StepBy.{refuses, defines}
 use Rattle.rss_stored.specs.Store.{OpensTo, OpensToEither}
 use Rattle.rss_model.specs.ReplyText.{IsShort}
-use Rattle.rss_model.specs.Costs.{RisesAtMost, most_asks, most_writes}
-use Rattle.rss_stored.specs.Calls.{EngineView, GoesOn, GetsPlace, IsAnswer, IsOutcome, IsCallOf}
+use Rattle.rss_model.specs.Costs.{RisesAtMost, most_writes, may_lack_memory}
+use Rattle.rss_stored.specs.Calls.{EngineView, MayWrite, GoesOn, GetsPlace, IsAnswer, IsOutcome, IsCallOf}
 
 -- a count that rises by so many at most, rises by no more than it may
 pub within_most : (most : Option ℕ) (n before now : ℕ) → IfSome most (λ m. n ≤ m) → now ≤ before + n → RisesAtMost most before now
 within_most None n before now few rises = tt
 within_most (Some m) n before now few rises = omega (arith, few, rises)
 
-none_within : (most : Option ℕ) → IfSome most (λ m. 0 ≤ m)
+pub none_within : (most : Option ℕ) → IfSome most (λ m. 0 ≤ m)
 none_within None = tt
 none_within (Some m) = omega arith
 
--- a call that costs nothing
-pub costs_nothing : {old new : EngineView} (call : Call) → new.asks ≡ old.asks → new.writes ≡ old.writes → new.calls ≤ old.calls + 1 → new.slots ≡ old.slots → (IsTold old.disk → IsTold new.disk) → (IsTold old.disk → Continues old.disk new.disk) → old.faults ≤ new.faults → GoesOn old new call
-costs_nothing {old = old} {new = new} call same_asks same_writes calls same_slots told history later = record {
-  asks = within_most (most_asks call) 0 old.asks new.asks (none_within (most_asks call)) (omega (arith, same_asks));
-  writes = within_most (most_writes call) 0 old.writes new.writes (none_within (most_writes call)) (omega (arith, same_writes));
-  calls = calls;
-  slots = same_slots;
-  told = told;
-  history = history;
-  later = later;
-}
+-- where nothing is written no call writes more than it may
+pub writes_no_more : (old new : EngineView) (call : Call) → new.disk ≡ old.disk → new.writes ≡ old.writes → MayWrite old new call
+writes_no_more old new (End t) disk writes = (subst (WritesIn old.end_places old.disk) (sym disk) (writes_none old.disk), omega (arith, writes))
+writes_no_more old new call disk writes = within_most (most_writes call) 0 old.writes new.writes (none_within (most_writes call)) (omega (arith, writes))
 
--- nothing is done
-idles : (view : EngineView) (call : Call) → GoesOn view view call
-idles view call = costs_nothing call refl refl (omega arith) refl (λ told. told) (λ told. started view.disk _) (omega arith)
+-- a call that is no end writes no more than its bound
+pub writes_bound : (old new : EngineView) (call : Call) → ((t : ℕ) → call ≡ End t → ⊥) → RisesAtMost (most_writes call) old.writes new.writes → MayWrite old new call
+writes_bound old new (End t) other rises = absurd (other t refl)
+writes_bound old new call other rises = rises
+
+-- a call that may lack memory is no end, nor is one of no transaction
+pub lacks_no_end : (call : Call) → may_lack_memory call ≡ true → (t : ℕ) → call ≡ End t → ⊥
+lacks_no_end call may t is = true≢false (sym may ∙ ap may_lack_memory is)
+
+pub none_no_end : (call : Call) → caller call ≡ None → (t : ℕ) → call ≡ End t → ⊥
+none_no_end call none t is = let same = sym none ∙ ap caller is in cc (same)
 
 -- ---- refusals
 

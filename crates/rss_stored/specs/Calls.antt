@@ -1,14 +1,15 @@
 -- A call on an engine, whichever call it is: what it leaves, by its result.
 use Rattle.std.specs.Prelude.{◌≡◌, ◌↔◌, ℕ, ◌+◌, ◌-◌, ◌^◌, ◌≤◌, true, List, Contains, Result, Ok, Err, IsErrOf}
 use Rattle.std.specs.List.{list_any}
-use Rattle.rss_base.specs.DiskRule.{Disk, Pages, IsTold, Leaves, Continues}
+use Rattle.rss_base.specs.DiskRule.{Disk, Pages, IsTold, Leaves, Continues, WritesIn}
+use Rattle.rss_base.specs.DiskRule.{Places as DevicePlaces}
 use Rattle.rss_base.specs.Faults.{Rises}
 use Rattle.rss_base.specs.declared.name.Name.{Name}
 use Rattle.rss_base.specs.declared.tid.Tid.{Tid}
 use Rattle.rss_base.specs.declared.value.Value.{Value}
 use Rattle.rss_base.specs.declared.item.Item.TheVariants.{Tuple}
 use Rattle.rss_base.specs.declared.call.Call.{Call}
-use Rattle.rss_base.specs.declared.call.Call.TheVariants.{Insert}
+use Rattle.rss_base.specs.declared.call.Call.TheVariants.{Insert, End}
 use Rattle.rss_base.specs.declared.answer.Reply.{Reply}
 use Rattle.rss_base.specs.declared.answer.Reply.TheVariants.{Tid as Identifier}
 use Rattle.rss_base.specs.declared.answer.CallError.{CallError}
@@ -38,6 +39,7 @@ Places = Name → List Value → List Tid → Tid → Type 0
 -- slots: how many slots its device has for pages.
 -- calls: how many calls it was asked for.
 -- asks, writes, faults: how many pages were asked for, how many of the device written, and how many faults of it met.
+-- end_places, end_most: which pages of its device an end may write, and how many.
 pub record EngineView : Type 1 where
   pub disk : Disk
   pub shows : States
@@ -48,11 +50,19 @@ pub record EngineView : Type 1 where
   pub asks : ℕ
   pub writes : ℕ
   pub faults : ℕ
+  pub end_places : DevicePlaces
+  pub end_most : ℕ
+
+-- What a call may write: an end such pages alone, and so many of them; any other call no more pages than it may.
+abbrev pub MayWrite : EngineView → EngineView → Call → Type 0
+MayWrite old new (End t) =
+    WritesIn old.end_places old.disk new.disk × (new.writes ≤ old.writes + old.end_most)
+MayWrite old new call = RisesAtMost (most_writes call) old.writes new.writes
 
 -- What each call passes on, whatever it does: it costs no more than it may, a device tells its contents and its history as before, and no fault is forgotten.
 pub record GoesOn (old new : EngineView) (call : Call) : Type 0 where
   pub asks : RisesAtMost (most_asks call) old.asks new.asks
-  pub writes : RisesAtMost (most_writes call) old.writes new.writes
+  pub writes : MayWrite old new call
   pub calls : new.calls ≤ old.calls + 1
   pub slots : new.slots ≡ old.slots
   pub told : IsTold old.disk → IsTold new.disk
