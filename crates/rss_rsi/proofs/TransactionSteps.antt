@@ -3,6 +3,7 @@ use Rattle.std.proofs.Common.{◌≡◌, ℕ, ◌+◌, ◌^◌, ◌<◌, ◌≤�
 use Rattle.std.specs.Prelude.{None, Ok, codes, decimal}
 use Rattle.std.proofs.lemmas.Fmt.{length-decimal-le}
 use Rattle.rss_base.specs.DiskRule.{IsTold, WritesIn}
+use Rattle.rss_base.specs.Steps.{PagesView}
 use Rattle.rss_base.specs.declared.call.Call.TheVariants.{Begin, Save, Restore, End, Abort, Checkpoint}
 use Rattle.rss_base.specs.declared.answer.Reply.TheVariants.{Ok as Done, Number}
 use Rattle.rss_base.specs.declared.root.Root.{Root}
@@ -30,10 +31,13 @@ use Rattle.rss_trans.proofs.Told.{open_saves}
 use Rattle.rss_store.specs.Commits.{IsEndPlace, new_pieces, selector as at_selector, root as at_root, piece as at_piece}
 use Rattle.rss_session.specs.Admissions.{Says}
 use Rattle.rss_session.specs.Calls.{Appends, KeepsTables, CommitsTables, HasMarks, Restores, Aborts}
+use Rattle.rss_lock.specs.declared.locks.Locks.{Locks as LockTable}
 use Rattle.rss_session.specs.Sessions.{SessionView}
+use Rattle.rss_session.specs.declared.session.Session.{Session}
 use Rattle.rss_session.specs.Shown.{Shows}
 use Rattle.rss_rsi.specs.Views.{RssParts, AreScans, IsIn, end_after, engine_view}
-use Rattle.rss_rsi.proofs.Ways.{SameHeld, Leads, LeadsAll, stopped_by, leads_by, leads_held, keeps_same}
+use Rattle.rss_rsi.specs.Saving.{HasCheckpointOf}
+use Rattle.rss_rsi.proofs.Ways.{SameHeld, ScanTable, rss_parts, Leads, LeadsAll, stopped_by, leads_by, leads_held, keeps_same}
 
 -- an open transaction has the save points that are listed
 has_marks : {view : SessionView} {state : State} (t : ℕ) → is_open view.opened t ≡ true → Shows view state → HasMarks state t (transaction_in view.opened t).saves
@@ -166,3 +170,7 @@ module _ (old new : RssParts) (passes : Says old.session if_no_log_room None) (k
   pub checkpoint_leads : SameHeld old new → (IsTold old.session.store.pages.disk → (state : State) → Kept state → Shows old.session state → Shows new.session (record state { meter = saved_now state })) → LeadsAll old new Checkpoint (Ok Done)
   checkpoint_leads held saves_so told state is_in =
       leads_held _ keeps told is_in (checkpoint_step told state is_in.shows) (saves_so told state is_in.kept is_in.shows) held refl refl refl
+
+-- it was taken of the engine as it was before the call was counted
+pub checkpoint_asked : {S : Type 0} (pages_view : S → PagesView) {old mid : Session S} {locks now : LockTable} {scans scans_now : ScanTable} {new : RssParts} → mid ≡ old → now ≡ locks → scans_now ≡ scans → HasCheckpointOf (rss_parts pages_view mid now scans_now) new → HasCheckpointOf (rss_parts pages_view old locks scans) new
+checkpoint_asked pages_view {new = new} same same_locks same_scans = subst (λ (parts : RssParts). HasCheckpointOf parts new) (λ i. rss_parts pages_view (same i) (same_locks i) (same_scans i))

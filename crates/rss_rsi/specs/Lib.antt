@@ -2,6 +2,7 @@ pub mod Views
 pub mod Parts
 pub mod Changing
 pub mod RsiLaws
+pub mod Saving
 pub mod Opening
 pub mod Definitions
 pub mod Imaging

@@ -1,5 +1,5 @@
 // The calls on transactions.
-ghost use Rattle.std.specs.Prelude.{◌≡◌, ◌<◌, length, IsErrOf};
+ghost use Rattle.std.specs.Prelude.{◌≡◌, ◌<◌, length, IsErrOf, OnOk};
 ghost use Rattle.rss_base.specs.declared.answer.CallError.TheVariants.{NoMemory};
 ghost use Rattle.rss_base.specs.declared.call.Call.TheVariants.{Begin, Save, Restore, End, Abort, Checkpoint};
 ghost use Rattle.rss_stored.specs.Calls.{calls_most};
@@ -11,7 +11,8 @@ use rss_buffer::Saving;
 
 impl<S: Saving> Rss<S> {
     ghost use Rattle.rss_stored.specs.Calls.{IsCallOf};
-    ghost use Rattle.rss_rsi.specs.Parts.{view, session_of, store_of};
+    ghost use Rattle.rss_rsi.specs.Parts.{view, parts_of, session_of, store_of};
+    ghost use Rattle.rss_rsi.specs.Saving.{HasCheckpointOf};
 
     /// Begins a transaction.
     pub fn begin(&mut self, transaction: u32) -> Result<Reply, CallError>
@@ -93,11 +94,12 @@ impl<S: Saving> Rss<S> {
         Ok(Reply::Ok)
     }
 
-    /// Takes a checkpoint, from which on the log is kept. It is refused where what is free behind it is
+    /// Takes a checkpoint, from which on the log is kept: all pages come to the device. It is refused where what is free behind it is
     /// less than what is owed to the changes of open transactions.
     pub fn checkpoint(&mut self) -> Result<Reply, CallError>
         requires few { (view self.old).calls < calls_most }
         ensures did { IsCallOf (view self.old) (view self.new) Checkpoint result }
+        ensures saves { OnOk result (HasCheckpointOf (parts_of self.old) (parts_of self.new)) }
         ensures untouched { ((view self.old).is_up → ⊥) → self.new ≡ self.old }
         ensures memory { IsErrOf result NoMemory → ⊥ }
     {

@@ -4,6 +4,7 @@ use Rattle.std.specs.FinMap as map
 use Rattle.rss_base.specs.DiskRule.{IsTold, Passes, Continues}
 use Rattle.rss_base.specs.Faults.{Rises}
 use Rattle.rss_base.specs.Paged.{mapped_of}
+use Rattle.rss_base.specs.Steps.{NoneChanged}
 use Rattle.rss_base.specs.Listings.{relation_at}
 use Rattle.rss_base.specs.declared.change.Change as told
 use Rattle.rss_base.specs.declared.relation.RelationEntry.{RelationEntry}
@@ -80,7 +81,7 @@ KeepsTables old new =
 
 -- ---- checkpoints
 
--- What is counted is counted from this checkpoint on. The same transactions are open, with the same changes.
+-- What is counted is counted from this checkpoint on. The same transactions are open, with the same changes. Each page is saved, and the selected root names the checkpoint's record, with which the log ends.
 pub record CountsAnew (old new : SessionView) : Type 0 where
   pub transactions : new.opened.transactions ≡ old.opened.transactions
   pub places : new.opened.room ≡ old.opened.room
@@ -96,6 +97,8 @@ pub record CountsAnew (old new : SessionView) : Type 0 where
   pub head : new.store.log.head ≡ saved_head old
   pub end : new.store.log.end ≡ saved_end old
   pub listing : new.store.catalog.listing ≡ old.store.catalog.listing
+  pub checkpoint : new.store.root.checkpoint ≡ old.store.log.end
+  pub unchanged : NoneChanged new.store.pages
 
 -- ---- definitions
 

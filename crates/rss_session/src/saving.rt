@@ -12,8 +12,7 @@ ghost use Rattle.rss_model.specs.Steps.{redefined};
 ghost use Rattle.rss_stored.specs.Store.{Stored, IsStore};
 ghost use Rattle.rss_model.specs.Tables.{Tables};
 ghost use Rattle.rss_trans.specs.Transactions.{Checkpoints};
-ghost use Rattle.rss_store.specs.Commits.{CanCheckpoint, IsSavedStore};
-ghost use Rattle.rss_store.specs.Shown.{Shows as StoreShows};
+ghost use Rattle.rss_store.specs.Commits.{CanCheckpoint, IsSavedStore, StandsAtCheckpoint};
 ghost use Rattle.rss_session.specs.Sessions.{IsReady, CanSave, IsEarly};
 ghost use Rattle.rss_session.specs.Shown.{Shows};
 ghost use Rattle.rss_base.specs.LogRecords.{marks_most};
@@ -42,6 +41,10 @@ impl<S: Saving> Session<S> {
         ensures shows { OnOk result (IsTold (view S.view self.old).store.pages.disk → (state : State)
             → Kept state → Shows (view S.view self.old) state
             → Shows (view S.view self.new) (record state { meter = saved_now state })) }
+        ensures stands { OnOk result (IsTold (view S.view self.old).store.pages.disk → (state : State)
+            → Kept state → Shows (view S.view self.old) state
+            → StandsAtCheckpoint (view S.view self.new).store
+            (record state { meter = saved_now state })) }
         ensures sound { (place : AnyPlace) → result ≡ Err (Damaged place)
             → IsTold (view S.view self.old).store.pages.disk → ShowsNone (view S.view self.old) }
         ensures moments { KeepsTables (view S.view self.old) (view S.view self.new) }
@@ -93,7 +96,7 @@ impl<S: Saving> Session<S> {
         ensures shows { OnOk result (IsTold (view S.view self.old).store.pages.disk
             → (stored : Stored) (next : State)
             → CanCheckpoint (view S.view self.old).store (named (view S.view self.old).opened) stored next
-            → StoreShows (view S.view self.new).store next) }
+            → StandsAtCheckpoint (view S.view self.new).store next) }
         ensures moments { IsTold (view S.view self.old).store.pages.disk
             → (stored : Stored) (next : State)
             → CanCheckpoint (view S.view self.old).store (named (view S.view self.old).opened) stored next

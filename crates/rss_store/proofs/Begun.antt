@@ -51,7 +51,7 @@ use Rattle.rss_restart.specs.Restarting.{CanRestart, Recovered, NoneRecovered, R
 use Rattle.rss_restart.proofs.Opening.{few_changes, stores_restart, gives_tables}
 use Rattle.rss_store.specs.Stores.{StoreView, IsReady, IsSaved}
 use Rattle.rss_store.specs.Shown.{HoldsTables, LeavesStore, HoldsLogged, Shows}
-use Rattle.rss_store.specs.Commits.{CanCheckpoint, IsSavedStore, CommitsPages, Saves}
+use Rattle.rss_store.specs.Commits.{CanCheckpoint, IsSavedStore, CommitsPages, Saves, StandsAtCheckpoint}
 use Rattle.rss_store.specs.Opening.{RestsAt, NamesNone, IsReadFrom, OpensAt, BeginsIn, HasRoomAtRest, FindsDamage, Begins}
 use Rattle.rss_store.proofs.Spelled.{system_kept}
 use Rattle.rss_store.proofs.Resting.{StandsThere, stands_there, not_none, rests, rested}
@@ -484,9 +484,9 @@ module _ {T : Type 0} {value : T} {old : StoreView} {pages : PagesView} {catalog
   may stored read = subst (λ (m : List (ℕ × ℕ)). CanCheckpoint (changed_view old pages catalog) m stored (behind stored read)) (sym none) (may_checkpoint ready passes held_are recovers read)
 
   begins_behind : {U : Type 0} (new : StoreView) (result : Result U PageFault) → (IsTold new.pages.disk → (image : Pages) → Leaves new.pages.disk image → new.pages.settled ≡ true → HasFixed new.pages.fixed image) → (IsTold old.pages.disk → IsTold new.pages.disk) → OnOk result (IsReady new) → OnOk result (IsSaved new)
-      → OnOk result (IsTold pages.disk → (stored : Stored) (next : State) → CanCheckpoint (changed_view old pages catalog) marks stored next → Shows new next) → OnOk result ((stored : Stored) → IsReadFrom stored old → BeginsIn stored new)
+      → OnOk result (IsTold pages.disk → (stored : Stored) (next : State) → CanCheckpoint (changed_view old pages catalog) marks stored next → StandsAtCheckpoint new next) → OnOk result ((stored : Stored) → IsReadFrom stored old → BeginsIn stored new)
   begins_behind new (Ok value) stays told ready_new saved shows = λ stored read.
-      let shown = shows (mid_told ready passes (read_told read)) stored (behind stored read) (may stored read) in
+      let shown = (shows (mid_told ready passes (read_told read)) stored (behind stored read) (may stored read)).shows in
       let rest = next_rests ready passes held_are recovers read in
       record {
         state = behind stored read;
@@ -507,7 +507,7 @@ module _ {T : Type 0} {value : T} {old : StoreView} {pages : PagesView} {catalog
   log_behind new (Err fault) saves = tt
 
   pub begins_saved : {U : Type 0} (new : StoreView) (result : Result U PageFault) → (IsTold new.pages.disk → (image : Pages) → Leaves new.pages.disk image → new.pages.settled ≡ true → HasFixed new.pages.fixed image) → OnOk result (IsReady new) → OnOk result (IsSaved new)
-      → OnOk result (IsTold pages.disk → (stored : Stored) (next : State) → CanCheckpoint (changed_view old pages catalog) marks stored next → Shows new next)
+      → OnOk result (IsTold pages.disk → (stored : Stored) (next : State) → CanCheckpoint (changed_view old pages catalog) marks stored next → StandsAtCheckpoint new next)
       → (IsTold pages.disk → (stored : Stored) (next : State) → CanCheckpoint (changed_view old pages catalog) marks stored next → Passes pages.disk new.pages.disk (λ image. IsStore image stored ⊎ IsSavedStore (changed_view old pages catalog) next image)) → OnOk result (Saves marks (changed_view old pages catalog) new) → new.catalog.listing ≡ catalog.listing → CommitsPages pages new.pages result → Begins old new result
   begins_saved new result stays ready_new saved shows moments saves listing did =
       let still : IsTold old.pages.disk → IsTold new.pages.disk = λ told. did.told.0 (mid_told ready passes told) in

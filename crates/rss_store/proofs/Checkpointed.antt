@@ -23,7 +23,7 @@ use Rattle.rss_record.proofs.Parsing.{some_bytes, placed_append, parses_one}
 use Rattle.rss_log.specs.Logs.{LogView, IsLog, HasRecords, bytes_from, piece_start, tail_of, room_end, with_head}
 use Rattle.rss_buffer.specs.Saved.{IsSaveable}
 use Rattle.rss_buffer.specs.Saving.{SavingView, first_slot, AreSaveable, SavingStep}
-use Rattle.rss_buffer.proofs.SavingSteps.{saving_then}
+use Rattle.rss_buffer.proofs.SavingSteps.{saving_then, none_changed}
 use Rattle.rss_store.proofs.Pieces.{slots_still, mapped_still}
 use Rattle.rss_catalog.specs.Catalogs.{CatalogView, pending_pages, StoresListing}
 use Rattle.rss_access.specs.Written.{heap_now}
@@ -45,7 +45,7 @@ use Rattle.rss_stored.proofs.LogStored.{disk_has_log, disk_has_room}
 use Rattle.rss_model.proofs.Sparing.{session_begins}
 use Rattle.rss_stored.proofs.StorePages.{pages_split}
 use Rattle.rss_store.specs.Stores.{StoreView, IsReady, IsSaved, IsLogBehind}
-use Rattle.rss_store.specs.Commits.{HasLogRoom, CanCheckpoint, IsSavedStore, least_mark, Saves}
+use Rattle.rss_store.specs.Commits.{HasLogRoom, CanCheckpoint, IsSavedStore, least_mark, Saves, StandsAtCheckpoint}
 use Rattle.rss_store.specs.Selecting.{IsMeant, CanSelect, IsNextStore}
 use Rattle.rss_store.specs.Shown.{HoldsLogged, LeavesStore, Shows}
 use Rattle.rss_store.proofs.Growing.{Appends, behind_appended, logged_appended}
@@ -382,13 +382,15 @@ module _ {view : StoreView} {marks : List (ℕ × ℕ)} {mid saved : PagesView} 
       count = saved_pages;
     }
 
-    pub saves_so : Saves marks view new
-    saves_so = record {
+    pub saves_so : new.root ≡ next_root → Saves marks view new
+    saves_so root = record {
       pages = ap (λ (l : LogView). l.pages) moved ∙ pages_is;
       head = ap (λ (l : LogView). l.head) moved;
       end = ap (λ (l : LogView). l.end) moved ∙ end_is;
       mapped = mapped_last;
       shadow = saved_pages;
+      checkpoint = ap (λ (r : Root). r.checkpoint) (root ∙ root_is) ∙ at_checkpoint;
+      unchanged = none_changed saveable_last (shadow ∙ sym both.current);
     }
 
     mapped_same : mapped_pages new.pages.slots new.pages.mapped ≡ mapped_pages view.pages.slots view.pages.mapped
@@ -408,11 +410,16 @@ module _ {view : StoreView} {marks : List (ℕ × ℕ)} {mid saved : PagesView} 
       end_kept = sym can.logged.end_is
 
       -- the lists are those of the checkpoint
-      surviving_is : length next.changes ≡ next.meter.surviving
-      surviving_is =
+      lists_are : lists_now kept_log ≡ lists_saved kept_log
+      lists_are =
           let record_last : Placed = record { at = can.log.end; is = Checkpoint marks } in
-          let lists : list_after [] (as_entries can.kept ++ record_last ∷ []) ≡ lists_saved kept_log = list_after-append [] (as_entries can.kept) (record_last ∷ []) in
-          ap (λ (cs : List Change). length cs) (sym can.ties.ties.changes_are) ∙ length-changes (lists_now kept_log) ∙ ap (λ (ls : List Listed). length ls) lists ∙ sym can.ties.meter.surviving
+          list_after-append [] (as_entries can.kept) (record_last ∷ [])
+
+      changes_are : changes_in (lists_saved kept_log) ≡ next.changes
+      changes_are = ap changes_in (sym lists_are) ∙ can.ties.ties.changes_are
+
+      surviving_is : length next.changes ≡ next.meter.surviving
+      surviving_is = ap (λ (cs : List Change). length cs) (sym changes_are) ∙ length-changes (lists_saved kept_log) ∙ sym can.ties.meter.surviving
         where
           length-changes : (ls : List Listed) → length (changes_in ls) ≡ length ls
           length-changes [] = refl
@@ -431,7 +438,7 @@ module _ {view : StoreView} {marks : List (ℕ × ℕ)} {mid saved : PagesView} 
       held_last : new.pages.held ≡ mid.held
       held_last = both.held (is.step.passes.leaves.told.0 told)
 
-      pub saved_shows : new.root ≡ next_root → new.number ≡ 3 - view.number → AreCounted new.pages → ((image : Pages) → HasFixed new.pages.fixed image → IsStore image kept_store) → Shows new next
+      saved_shows : new.root ≡ next_root → new.number ≡ 3 - view.number → AreCounted new.pages → ((image : Pages) → HasFixed new.pages.fixed image → IsStore image kept_store) → Shows new next
       saved_shows root number counted fixes = record {
         log = kept_log;
         stored = kept_store;
@@ -463,3 +470,16 @@ module _ {view : StoreView} {marks : List (ℕ × ℕ)} {mid saved : PagesView} 
           until_last =
               subst (ArePlaced (least_mark can.log.end marks) (as_bytes (can.kept ++ kept_last ∷ []))) (ap (λ (r : Root). r.end) (sym root_is ∙ sym root))
               (subst (λ (n : ℕ). ArePlaced n (as_bytes (can.kept ++ kept_last ∷ [])) log.end) (sym (head_same can told holds next_root checkpoint at_checkpoint root_is)) (stay_now can told holds next_root checkpoint at_checkpoint root_is))
+
+      -- it stands at its checkpoint
+      pub stands_saved : new.root ≡ next_root → new.number ≡ 3 - view.number → AreCounted new.pages → (((image : Pages) → Leaves new.pages.disk image → IsStore image kept_store) → (image : Pages) → HasFixed new.pages.fixed image → IsStore image kept_store)
+          → ((image : Pages) → Leaves new.pages.disk image → IsStore image kept_store) → StandsAtCheckpoint new next
+      unfolding saved_shows
+      stands_saved root number counted fixes leaves = record {
+        shows = saved_shows root number counted (fixes leaves);
+        leaves = leaves;
+        tables = refl;
+        lists = changes_are;
+        last = kept_last;
+        newer = refl;
+      }

@@ -1,6 +1,6 @@
 -- The calls by which the disk is brought up to date: what they ask for, and what they leave.
-use Rattle.std.specs.Prelude.{◌≡◌, ◌↔◌, ℕ, ◌+◌, ◌-◌, ◌*◌, ◌/◌, ◌<◌, ◌≤◌, ◌||◌, List, ◌++◌, fold, min, count_by, Result, Err, IsErrOf}
-use Rattle.rss_base.specs.DiskRule.{Pages, IsTold, Continues}
+use Rattle.std.specs.Prelude.{◌≡◌, ◌↔◌, ℕ, ◌+◌, ◌-◌, ◌*◌, ◌/◌, ◌<◌, ◌≤◌, ◌||◌, List, [], ◌∷◌, ◌++◌, fold, min, count_by, Result, Err, IsErrOf}
+use Rattle.rss_base.specs.DiskRule.{Pages, IsTold, Leaves, Continues}
 use Rattle.rss_base.specs.Faults.{Rises}
 use Rattle.rss_base.specs.Sizes.{piece_bytes, largest_checkpoint, position_limit}
 use Rattle.rss_base.specs.Layout.{map_pages}
@@ -9,7 +9,7 @@ use Rattle.rss_base.specs.Paged.{Mapped, mapped_of, mapped_pages}
 use Rattle.rss_base.specs.LogRecords.{ArePlaced, IsSpellable, record_size}
 use Rattle.rss_base.specs.LogPages.{IsNewPiece}
 use Rattle.rss_base.specs.Runs.{run_pages}
-use Rattle.rss_base.specs.Steps.{PagesView}
+use Rattle.rss_base.specs.Steps.{PagesView, NoneChanged}
 use Rattle.rss_base.specs.declared.fault.PageFault.{PageFault}
 use Rattle.rss_base.specs.declared.fault.PageFault.TheVariants.{Device as DeviceFailed, Damaged, NoMemory}
 use Rattle.rss_base.specs.declared.key.Space.TheVariants.{Overflow}
@@ -21,14 +21,15 @@ use Rattle.rss_model.specs.Fits.{Fits}
 use Rattle.rss_model.specs.Machine.{State, now}
 use Rattle.rss_model.specs.Meter.{free_between}
 use Rattle.rss_model.specs.Kept.{FitMixed, IsMetered}
+use Rattle.rss_model.specs.Records.{changes_in}
 use Rattle.rss_model.specs.Meanings.{Logged, as_bytes}
 use Rattle.rss_model.specs.EngineLogs.{EngineLog, all_logged, saved_log, TiesState}
 use Rattle.rss_stored.specs.LogLaws.{committed_now}
-use Rattle.rss_stored.specs.Store.{Stored, SpellsTables, size_of}
+use Rattle.rss_stored.specs.Store.{Stored, SpellsTables, listed_at, size_of, IsStore}
 use Rattle.rss_access.specs.Written.{AreWritten, heap_now, is_pending}
 use Rattle.rss_catalog.specs.Catalogs.{CatalogView}
 use Rattle.rss_store.specs.Stores.{StoreView}
-use Rattle.rss_store.specs.Shown.{LeavesStore, HoldsLogged, HoldsTables}
+use Rattle.rss_store.specs.Shown.{LeavesStore, HoldsLogged, HoldsTables, Shows}
 
 -- ---- room in the log
 
@@ -99,13 +100,24 @@ other_writes view size =
     run_pages * count_by (λ b. b) view.catalog.pending + map_pages view.pages.slots
     + new_pieces view.root (view.log.end + size) + 2
 
--- The log is kept from the least of the marks' positions on and has its record. Each page has one slot then.
+-- The log is kept from the least of the marks' positions on, and ends with its record, which the selected root names. Each page has one slot then, and is saved.
 pub record Saves (marks : List (ℕ × ℕ)) (old new : StoreView) : Type 0 where
   pub pages : new.log.pages ≡ old.log.pages
   pub head : new.log.head ≡ least_mark old.log.end marks
   pub end : new.log.end ≡ old.log.end + record_size (records.Checkpoint marks)
   pub mapped : new.pages.mapped ≡ old.pages.mapped
   pub shadow : page_count new.pages.backing.shadow ≡ mapped_pages new.pages.slots new.pages.mapped
+  pub checkpoint : new.root.checkpoint ≡ old.log.end
+  pub unchanged : NoneChanged new.pages
+
+-- The store is in this state, and stands at a checkpoint: what a stop leaves then has the tables now in the pages of its map, it lists the changes of open transactions, and nothing stands behind its record.
+pub record StandsAtCheckpoint (view : StoreView) (state : State) : Type 0 where
+  pub shows : Shows view state
+  pub leaves : (image : Pages) → Leaves view.pages.disk image → IsStore image shows.stored
+  pub tables : shows.stored.saved ≡ now state
+  pub lists : changes_in (listed_at shows.stored) ≡ state.changes
+  pub last : Logged
+  pub newer : shows.stored.newer ≡ last ∷ []
 
 -- a store as it is left behind it, whose tables are the committed ones of this state
 abbrev pub IsSavedStore : StoreView → State → Pages → Type 0

@@ -13,7 +13,7 @@ ghost use Rattle.rss_stored.specs.LogLaws.{committed_now};
 ghost use Rattle.rss_stored.specs.Store.{Stored, size_of, IsStore};
 ghost use Rattle.rss_store.specs.Commits.{HasLogRoom, IsEndPlace, MayCommit, CanCheckpoint};
 ghost use Rattle.rss_store.specs.Commits.{IsSavedStore, CommitsPages, Saves, SamePages, least_mark, new_pieces};
-ghost use Rattle.rss_store.specs.Commits.{changed_with, other_writes};
+ghost use Rattle.rss_store.specs.Commits.{changed_with, other_writes, StandsAtCheckpoint};
 ghost use Rattle.rss_store.specs.Selecting.{CanSelect, IsNextStore, Selects};
 ghost use Rattle.rss_store.specs.Shown.{HoldsTables, Shows};
 ghost use Rattle.rss_store.specs.Stores.{IsReady, IsSaved, Grows};
@@ -97,7 +97,7 @@ impl<S: Saving> DurableStore<S> {
         ensures shows { OnOk result (IsTold (view S.view self.old).pages.disk
             → (stored : Stored) (next : State)
             → CanCheckpoint (view S.view self.old) marks stored next
-            → Shows (view S.view self.new) next) }
+            → StandsAtCheckpoint (view S.view self.new) next) }
         ensures did { CommitsPages (view S.view self.old).pages (view S.view self.new).pages result }
         ensures writes { WritesWaiting
             (changed_with (view S.view self.old).pages (view S.view self.old).catalog)

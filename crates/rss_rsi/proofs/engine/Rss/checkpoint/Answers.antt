@@ -1,11 +1,11 @@
 use Rattle.rss_session.proofs.StaysOpen.{same_listed}
-use Rattle.std.proofs.Common.{refl, arith}
+use Rattle.std.proofs.Common.{refl, arith, ◌∙◌}
 use Rattle.rss_stored.proofs.Endings.{comes_to}
 use Rattle.rss_model.proofs.Tests.{refuses_at}
 use Rattle.rss_lock.specs.Table.{told}
 use Rattle.rss_scan.specs.Scans.{told as scans_told}
 use Rattle.rss_session.specs.Parts.{view as session_view}
-use Rattle.rss_rsi.proofs.TransactionSteps.{checkpoint_stops, checkpoint_leads}
+use Rattle.rss_rsi.proofs.TransactionSteps.{checkpoint_stops, checkpoint_leads, checkpoint_asked}
 use Rattle.rss_rsi.proofs.Ways.{asked, answers, goes, refused_test, failed_within, opened_stay, ready_stay}
 use Rattle.rss_rsi.proofs.engine.Rss.checkpoint.Goals as goal
 
@@ -32,6 +32,18 @@ returns-clause-did g c =
     asked g.S.Pages.view asked_so.session asked_so.locks asked_so.scans
     (comes_to asked_so.was_up (goes _ saved.goes (omega (arith, asked_so.counted)) tt tt)
     (answers refl (omega arith) (λ told state is_in. tt) (checkpoint_leads _ _ c.in_ok-test_checkpoint.ensures.tests saved.moments (record { locks = refl; scans = refl }) saved.shows)))
+
+pub returns-clause-saves : goal.returns-clause-saves
+returns-clause-saves g c =
+    let asked_so = c.in_ok-ask.ensures in
+    let saved = c.in_ok-checkpoint.ensures in
+    checkpoint_asked g.S.Pages.view asked_so.session asked_so.locks asked_so.scans (record {
+      unchanged = saved.anew.unchanged;
+      saved = saved.saved;
+      begins = saved.anew.checkpoint;
+      ends = saved.saved.log ∙ saved.anew.end;
+      stands = λ told state is_in. saved.stands told state is_in.kept is_in.shows;
+    })
 
 pub invariant_of-self-2 : goal.invariant_of-self-2
 invariant_of-self-2 g c = record {

@@ -17,9 +17,17 @@ returns-clause-shows g c =
     on_ok_both c.save_all.result (λ store behind told state kept shows.
     let held = g.met.S.Pages.holds self.store.tuples.pages told in
     let can = can_save (saves_ready c.requires.ready) all.few c.requires.ready c.requires.may kept shows held in
-    shows_saved (saves_ready c.requires.ready) all.few c.requires.ready c.requires.may kept shows held (store told shows.store.stored (record state { meter = saved_now state }) can)
+    shows_saved (saves_ready c.requires.ready) all.few c.requires.ready c.requires.may kept shows held (store told shows.store.stored (record state { meter = saved_now state }) can).shows
     behind.saved behind.checkpoints behind.anew behind.ready.store.size)
     all.shows (on_ok_behind (view g.S.Pages.view self) (view g.S.Pages.view c.save_all.new.self) c.save_all.result all.ready all.saved all.checkpoints all.anew)
+
+pub returns-clause-stands : goal.returns-clause-stands
+returns-clause-stands g c =
+    let self = c.args.self.now in
+    on_ok_weaker c.save_all.result (λ stands told state kept shows.
+    let can = can_save (saves_ready c.requires.ready) c.save_all.ensures.few c.requires.ready c.requires.may kept shows (g.met.S.Pages.holds self.store.tuples.pages told) in
+    stands told shows.store.stored (record state { meter = saved_now state }) can)
+    c.save_all.ensures.shows
 
 pub returns-clause-moments : goal.returns-clause-moments
 returns-clause-moments g c = λ told state kept shows.

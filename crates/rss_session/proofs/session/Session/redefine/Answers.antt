@@ -19,7 +19,7 @@ returns-clause-shows g c =
     on_ok_both c.save_all.result (λ store behind told state next is.
     let held = g.met.S.Pages.holds self.store.tuples.pages told in
     let can = can_redefine c.requires.ready c.requires.closed is held in
-    shows_redefined c.requires.ready c.requires.closed is held (store told is.behind.stored (redefined next state) can)
+    shows_redefined c.requires.ready c.requires.closed is held (store told is.behind.stored (redefined next state) can).shows
     behind.saved behind.checkpoints behind.anew behind.ready.store.size)
     all.shows (on_ok_behind (view g.S.Pages.view self) (view g.S.Pages.view c.save_all.new.self) c.save_all.result all.ready all.saved all.checkpoints all.anew)
 

@@ -97,6 +97,8 @@ returns-clause-anew g c =
       head = saves.head;
       end = saves.end;
       listing = store.listing;
+      checkpoint = saves.checkpoint;
+      unchanged = saves.unchanged;
     }
 
 pub returns-clause-appends : goal.returns-clause-appends

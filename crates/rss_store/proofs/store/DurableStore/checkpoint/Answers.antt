@@ -12,7 +12,7 @@ use Rattle.rss_store.specs.Stores.{StoreView}
 use Rattle.rss_store.proofs.Growing.{Appends}
 use Rattle.rss_store.proofs.Nexts.{fixes_now}
 use Rattle.rss_store.proofs.Passed.{writes_all, unsaved, saved_so, half_saved}
-use Rattle.rss_store.proofs.Checkpointed.{IsPrepared, saved_same, saved_can, saved_moments, saved_left, saved_next, saved_store, saved_ready, saved_all, saves_so, saved_shows, slots_last, log_pages_last, head_high}
+use Rattle.rss_store.proofs.Checkpointed.{IsPrepared, saved_same, saved_can, saved_moments, saved_left, saved_next, saved_store, saved_ready, saved_all, saves_so, stands_saved, slots_last, log_pages_last, head_high}
 use Rattle.rss_store.proofs.store.DurableStore.checkpoint.Goals as goal
 
 -- ---- the catalog is written
@@ -262,7 +262,7 @@ returns-clause-saves g c =
     let shadow = adopt.adopted.shadow ∙ select.did.step.current ∙ save.did.step.current in
     let moved : c.set_head.new.self ≡ with_head log (least_mark self.log.end marks) = c.set_head.ensures.moved ∙ (λ i. with_head (select.log i) (heads i)) in
     let listing : c.select.new.self.catalog.listing ≡ self.catalog.listing = ap (λ (k : CatalogView). k.listing) select.catalog ∙ store.same in
-    saves_so c.requires.ready prepared c.requires.low c.requires.room _ append.position root_is steps saveable_last shadow moved listing
+    saves_so c.requires.ready prepared c.requires.low c.requires.room _ append.position root_is steps saveable_last shadow moved listing select.selected.root
 
 pub returns-clause-moments : goal.returns-clause-moments
 returns-clause-moments g c = λ told stored next can.
@@ -354,15 +354,15 @@ returns-clause-shows g c = λ told stored next can.
       root = c.select.new.self.root;
       number = c.select.new.self.number;
     } in
-    saved_shows c.requires.ready prepared c.requires.low c.requires.room new append.position root_is steps saveable_last shadow moved listing can told holds
+    stands_saved c.requires.ready prepared c.requires.low c.requires.room new append.position root_is steps saveable_last shadow moved listing can told holds
     (λ gone ps has placed. c.set_head.ensures.records gone ps (subst (λ (l : LogView). HasRecords l (gone ++ ps)) (sym select.log) has)
     (subst (λ (l : LogView). ArePlaced l.head gone c.least_mark-head.result) (sym select.log) (subst (ArePlaced log.head gone) (sym heads) placed)))
     select.selected.root select.selected.number (g.met.S.Pages.are_counted c.adopt.new.self)
     (fixes_now saveable_last
     (slots_last c.requires.ready prepared c.requires.low c.requires.room new append.position root_is steps saveable_last shadow moved listing ∙ c.requires.ready.size)
     (log_pages_last c.requires.ready prepared c.requires.low c.requires.room new append.position root_is steps saveable_last shadow moved listing ∙ c.requires.ready.log_pages)
-    shadow (adopt.did.told.0 new_told) (g.met.S.Pages.reads_as_image c.adopt.new.self)
-    (λ image leaves. select.leaves saved_told _ _ _ is image (no_more (adopt.adopted.moments new_told) image leaves)))
+    shadow (adopt.did.told.0 new_told) (g.met.S.Pages.reads_as_image c.adopt.new.self))
+    (λ image leaves. select.leaves saved_told _ _ _ is image (no_more (adopt.adopted.moments new_told) image leaves))
 
 pub returns-clause-writes : goal.returns-clause-writes
 returns-clause-writes g c =
