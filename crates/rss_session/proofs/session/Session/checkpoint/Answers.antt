@@ -1,4 +1,5 @@
 use Rattle.std.proofs.Common.{⊎_elim, sym, subst}
+use Rattle.std.proofs.lemmas.Result.{on_ok_weaker}
 use Rattle.rss_base.proofs.Moments.{widened}
 use Rattle.rss_model.specs.Machine.{StoreSize}
 use Rattle.rss_model.specs.Rules.{saved_now}
