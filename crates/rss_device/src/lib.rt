@@ -19,7 +19,6 @@ mod step_device;
 mod steps;
 mod store_file;
 mod stored;
-mod taken;
 mod writer;
 
 pub use file::FileDevice;
@@ -32,5 +31,4 @@ pub use source::MemSource;
 pub use step::Step;
 pub use step_device::StepDevice;
 pub use store_file::{StoreFile, StoreFiles};
-pub use taken::Taken;
 pub use writer::WriterSink;

@@ -6,13 +6,12 @@ ghost use Rattle.rss_device.specs.Steps.{events_in};
 use crate::failing::failed;
 use crate::step::Step;
 use crate::steps::Steps;
-use crate::taken::Taken;
 use rss_base::{Device, Failed, PAGE_BYTES, Page};
 use std::alloc::{AllocError, Global};
 
 /// Pages in memory. Each page that is written, each sync and each new size is a step, and a device
 /// that holds the same pages at first and takes these steps, in this order, holds the same pages after
-/// them. A step is kept until its reader has taken it. A call that finds no memory for its step fails.
+/// them. A step is kept until its reader says that it was taken. A call that finds no memory for its step fails.
 #[derive(Drop)]
 pub struct StepDevice {
     pages: Vec<Page>,
@@ -30,11 +29,11 @@ impl StepDevice {
     ghost use Rattle.rss_device.specs.StepDevice.{view_of, steps_of, gone_of, IsFresh};
     ghost use Rattle.rss_device.specs.Memory.{OnlyTouches};
 
-    /// A device of these pages, all synced. `taken` says how many of its steps were taken.
-    pub fn new(alloc: Global, pages: Vec<Page>, taken: Taken) -> StepDevice
+    /// A device of these pages, all synced.
+    pub fn new(alloc: Global, pages: Vec<Page>) -> StepDevice
         ensures { IsFresh pages.items result }
     {
-        let steps = Steps::new(alloc, pages.as_slice(), taken);
+        let steps = Steps::new(alloc, pages.as_slice());
         StepDevice {
             pages,
             steps,
@@ -58,6 +57,20 @@ impl StepDevice {
         self.steps.get(k)
     }
 
+    /// How many of its steps, from the first on, are kept no more.
+    pub fn gone(&self) -> u64
+        ensures { result ≡ gone_of self.now }
+    {
+        self.steps.gone()
+    }
+
+    /// The first `k` steps were taken, and needn't be kept. A later call may let them go.
+    pub fn forget(&self, k: u64)
+        requires there { k ≤ length (steps_of self.now) }
+    {
+        self.steps.forget(k);
+    }
+
     /// Writes a page. Where no memory is found for the step, nothing is written.
     fn put(&mut self, at: u64, from: &Page) -> Result<(), AllocError>
         requires { at < (view_of self.old).size }
@@ -74,8 +87,11 @@ impl StepDevice {
 impl Device for StepDevice {
     ghost use Rattle.rss_device.specs.StepDevice.{view_of};
     ghost use Rattle.rss_device.specs.MemoryLaws.{reads, same_some};
-    ghost use Rattle.std.specs.Prelude.{length};
+    ghost use Rattle.std.specs.Prelude.{◌≡◌, ◌<◌, length, IfOk, OnOk, IsOk};
     ghost use Rattle.std.proofs.Common.{ap, arith, sym};
+    ghost use Rattle.rss_base.specs.Faults.{HasCause};
+    ghost use Rattle.rss_base.specs.DiskRule.{page, Told};
+    ghost use Rattle.rss_base.specs.Devices.{OnlyReads, ReadsPages};
 
     ghost view = { λ d. view_of d };
 
@@ -86,7 +102,14 @@ impl Device for StepDevice {
 
     ghost limited = { λ d. Prim.omega (arith, d.counts) };
 
-    fn size(&mut self) -> Result<u64, Failed> {
+    fn size(&mut self) -> Result<u64, Failed>
+        ensures size { IfOk result (λ n. n ≡ (view_of self.new).size) }
+        ensures same_size { Told (view_of self.old).disk (λ _.
+            (view_of self.new).size ≡ (view_of self.old).size) }
+        ensures reads { OnlyReads (view_of self.old) (view_of self.new) }
+        ensures cause { HasCause (view_of self.old).faults (view_of self.new).faults result }
+        ensures never_fails { IsOk result }
+    {
         Ok(self.pages.len() as u64)
     }
 
@@ -100,7 +123,13 @@ impl Device for StepDevice {
         Ok(())
     }
 
-    fn read(&mut self, at: u64, into: &mut Page) -> Result<(), Failed> {
+    fn read(&mut self, at: u64, into: &mut Page) -> Result<(), Failed>
+        requires { at < (view_of self.old).size }
+        ensures page { OnOk result (Told (view_of self.old).disk (λ pages.
+            into.new ≡ page pages at)) }
+        ensures did { ReadsPages (view_of self.old) (view_of self.new) result }
+        ensures never_fails { IsOk result }
+    {
         *into = self.pages[at as usize];
         Ok(())
     }
