@@ -1,4 +1,4 @@
-use Rattle.std.proofs.Common.{◌≡◌, ◌<◌, ℕ, List, sym, ◌∙◌, ap, subst}
+use Rattle.std.proofs.Common.{◌≡◌, ℕ, List, sym, ◌∙◌, ap, subst}
 use Rattle.rss_base.specs.TupleTypes.{kinds, chosen, Spells, IsKeyOf}
 use Rattle.rss_base.specs.Listings.{field_numbers}
 use Rattle.rss_base.specs.declared.value.FieldForm.{FieldForm}

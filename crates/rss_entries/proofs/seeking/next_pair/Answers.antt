@@ -1,4 +1,4 @@
-use Rattle.std.proofs.Common.{◌<◌, ℕ, true, false, sym, ◌∙◌, subst}
+use Rattle.std.proofs.Common.{true, false, sym, ◌∙◌}
 use Rattle.rss_node.specs.Pairs.{pair_bytes}
 use Rattle.rss_image.specs.Images.{least_tid}
 use Rattle.rss_entries.proofs.Nexts.{finds_same, wide_same, next_found, starts, goes_on}
