@@ -1,20 +1,18 @@
 // The locks of the calls on links.
-ghost use Rattle.std.specs.Prelude.{◌≡◌, ◌+◌, ◌≤◌, vec_len, IfOk, IfSome, OnOk};
+ghost use Rattle.std.specs.Prelude.{◌≡◌, ◌+◌, ◌≤◌, vec_len, IfOk, OnOk};
 ghost use Rattle.std.specs.FinMap.{get};
 ghost use Rattle.rss_base.specs.Listings.{IsNumberOf};
 ghost use Rattle.rss_base.specs.declared.item.Item.TheVariants.{Chain};
 ghost use Rattle.rss_base.specs.declared.need.Mode.TheVariants.{X};
 ghost use Rattle.rss_base.specs.declared.refusal.Kind.TheVariants.{Link as LinkKind};
 ghost use Rattle.rss_members.specs.Calls.{HasForm};
-ghost use Rattle.rss_base.specs.Tids.{IsSpelledTid};
 ghost use Rattle.rss_model.specs.Needs.{need, connect_needs, link_scan_needs};
 ghost use Rattle.rss_rsi.specs.Locking.{AreSayable, IsSayable, Lists};
 ghost use Rattle.rss_rsi.specs.Linking.{ListsBehind, ListsPlaced, child_list, chain_list, upper_list};
 
 use crate::Rss;
 use crate::locking::{Access, tuple_need};
-use crate::scanning::is_sized;
-use rss_base::{Item, Mode, Name, Need, Tid};
+use rss_base::{Item, Mode, Name, Need, Tid, tid_is_spelled};
 use rss_buffer::Saving;
 use rss_members::Membership;
 use std::alloc::AllocError;
@@ -174,19 +172,10 @@ fn chain_need(link: &Name, parent: Option<Tid>) -> Need
     ensures is { result ≡ need (Chain link.now parent) X }
     ensures sayable { IsSayable (Chain link.now parent) }
 {
-    are_sized(parent);
+    tid_is_spelled(parent);
     let Name { bytes } = *link;
     Need {
         item: Item::Chain(Name { bytes }, parent),
         mode: Mode::X,
-    }
-}
-
-/// The numbers of an identifier have four bytes and two, if there is one.
-fn are_sized(given: Option<Tid>)
-    ensures { IfSome given IsSpelledTid }
-{
-    if let Some(tid) = given {
-        is_sized(tid);
     }
 }

@@ -8,7 +8,6 @@ ghost use Rattle.rss_base.specs.declared.refusal.Kind.TheVariants.{Scan as ScanK
 ghost use Rattle.rss_base.specs.declared.refusal.Refusal.TheVariants.{NoSuch};
 ghost use Rattle.rss_members.specs.Calls.{HasForm};
 ghost use Rattle.rss_stored.specs.Calls.{calls_most};
-ghost use Rattle.rss_base.specs.Tids.{IsSpelledTid};
 ghost use Rattle.rss_rsi.specs.Looking.{EndsEach};
 ghost use Rattle.rss_rsi.specs.Placing.{MayCost};
 ghost use Rattle.rss_rsi.specs.Linking.{TestEnds};
@@ -22,6 +21,7 @@ use crate::looking::test_read;
 use rss_access::tuple_of;
 use rss_base::{
     Body, CallError, Key, Kind, LimitKind, Mode, Name, Place, Refusal, Reply, Tid, Tuple,
+    tid_is_spelled,
 };
 use rss_buffer::Saving;
 use rss_scan::{Cursor, Path};
@@ -216,7 +216,7 @@ impl<S: Saving> Rss<S> {
             self.down = false;
             return Ok(None);
         };
-        is_sized(tid);
+        tid_is_spelled(Some(tid));
         let relation = self.session.store.catalog.image(number).relation;
         let segment = self.session.store.catalog.relation(relation).segment;
         let mut body = Body::new();
@@ -336,11 +336,6 @@ impl<S: Saving> Rss<S> {
         Ok(Some((tid, tuple)))
     }
 }
-
-/// The numbers of an identifier have four bytes and two.
-pub(crate) fn is_sized(tid: Tid)
-    ensures { IsSpelledTid tid }
-{}
 
 /// The identifier that a scan gave last, if it gave any.
 fn last_of(cursor: &Cursor) -> Option<Tid>

@@ -169,7 +169,7 @@ returns-clause-finds g c =
     (body_as look.looks.catalog c.relation.ensures.is c.as_slice.ensures.bytes c.in-Ok.ensures.exact)
     long.0 at.0 at.1 (rw c.in-Some-found.is at c.in_ok-found.ensures.wide)
     c.in_ok-tuple.tuple c.in_ok-tuple.ensures.some
-    (row_line c.in-Some-found.tid (kinds c.relation.result.now.fields) c.in_ok-tuple.tuple (omega (arith, c.is_sized.ensures.page)) (omega (arith, c.is_sized.ensures.slot)) spelled.spelled.fit c.relation.ensures.safe.narrow (few_fields c.relation.ensures.safe) spelled.spelled.storable)
+    (row_line c.in-Some-found.tid (kinds c.relation.result.now.fields) c.in_ok-tuple.tuple (omega (arith, c.tid_is_spelled.ensures.page)) (omega (arith, c.tid_is_spelled.ensures.slot)) spelled.spelled.fit c.relation.ensures.safe.narrow (few_fields c.relation.ensures.safe) spelled.spelled.storable)
 
 pub returns-clause-costs : goal.returns-clause-costs
 returns-clause-costs g c =
