@@ -13,7 +13,7 @@ ghost use Rattle.rss_rsi.specs.Placing.{LooksAnyhow};
 use crate::Rss;
 use rss_base::{
     Body, CallError, IMAGES_MOST, ImageEntry, Item, Mode, Name, Need, Refusal, Text, Tid, Tuple,
-    Value,
+    Value, name_is_whole,
 };
 use rss_buffer::Saving;
 use std::alloc::{AllocError, Global};
@@ -124,8 +124,8 @@ fn key_item(image: &Name, key: Tuple) -> Item
     ensures is { result ≡ Key image.now key }
     ensures long { length image.now.bytes ≡ 16 }
 {
-    let Name { bytes } = *image;
-    Item::Key(Name { bytes }, key)
+    name_is_whole(*image);
+    Item::Key(*image, key)
 }
 
 /// The values of the fields of these numbers.

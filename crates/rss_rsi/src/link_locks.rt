@@ -12,7 +12,7 @@ ghost use Rattle.rss_rsi.specs.Linking.{ListsBehind, ListsPlaced, child_list, ch
 
 use crate::Rss;
 use crate::locking::{Access, tuple_need};
-use rss_base::{Item, Mode, Name, Need, Tid, tid_is_spelled};
+use rss_base::{Item, Mode, Name, Need, Tid, name_is_whole, tid_is_spelled};
 use rss_buffer::Saving;
 use rss_members::Membership;
 use std::alloc::AllocError;
@@ -173,9 +173,9 @@ fn chain_need(link: &Name, parent: Option<Tid>) -> Need
     ensures sayable { IsSayable (Chain link.now parent) }
 {
     tid_is_spelled(parent);
-    let Name { bytes } = *link;
+    name_is_whole(*link);
     Need {
-        item: Item::Chain(Name { bytes }, parent),
+        item: Item::Chain(*link, parent),
         mode: Mode::X,
     }
 }

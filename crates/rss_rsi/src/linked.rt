@@ -19,7 +19,9 @@ ghost use Rattle.rss_rsi.specs.Linking.{TestEnds, passes_all, if_placed, connect
 
 use crate::Rss;
 use crate::looking::no_tuple;
-use rss_base::{Body, CallError, Name, Need, PAGE_ENTRIES, Place, Refusal, Spot, Tid};
+use rss_base::{
+    Body, CallError, Name, Need, PAGE_ENTRIES, Place, Refusal, Spot, Tid, name_is_whole,
+};
 use rss_buffer::Saving;
 use rss_members::Membership;
 
@@ -323,8 +325,8 @@ fn connected(link: &Name) -> CallError
     ensures is { result ≡ Refused (Connected link.now) }
     ensures short { IsShort (Err (Connected link.now)) }
 {
-    let Name { bytes } = *link;
-    CallError::Refused(Refusal::Connected(Name { bytes }))
+    name_is_whole(*link);
+    CallError::Refused(Refusal::Connected(*link))
 }
 
 /// The tuple doesn't stand in the chain of the link.
@@ -332,6 +334,6 @@ pub(crate) fn not_connected(link: &Name) -> CallError
     ensures is { result ≡ Refused (NotConnected link.now) }
     ensures short { IsShort (Err (NotConnected link.now)) }
 {
-    let Name { bytes } = *link;
-    CallError::Refused(Refusal::NotConnected(Name { bytes }))
+    name_is_whole(*link);
+    CallError::Refused(Refusal::NotConnected(*link))
 }

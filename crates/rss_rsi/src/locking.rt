@@ -19,7 +19,9 @@ ghost use Rattle.rss_rsi.specs.Linking.{ListsBehind};
 ghost use Rattle.rss_rsi.specs.Locking.{putting, IsSayable, AreSayable, Lists, ListsAccess, MayBeOf, ClaimEnds};
 
 use crate::Rss;
-use rss_base::{CallError, Item, Kind, Mode, Name, Need, Refusal, Reply, Tid, Tuple};
+use rss_base::{
+    CallError, Item, Kind, Mode, Name, Need, Refusal, Reply, Tid, Tuple, name_is_whole,
+};
 use rss_buffer::Saving;
 use std::alloc::AllocError;
 
@@ -287,9 +289,9 @@ fn segment_need(segment: &Name, mode: Mode) -> Need
     ensures is { result ≡ need (Segment segment.now) mode }
     ensures sayable { IsSayable (Segment segment.now) }
 {
-    let Name { bytes } = *segment;
+    name_is_whole(*segment);
     Need {
-        item: Item::Segment(Name { bytes }),
+        item: Item::Segment(*segment),
         mode,
     }
 }
@@ -298,9 +300,9 @@ fn relation_need(relation: &Name, mode: Mode) -> Need
     ensures is { result ≡ need (Relation relation.now) mode }
     ensures sayable { IsSayable (Relation relation.now) }
 {
-    let Name { bytes } = *relation;
+    name_is_whole(*relation);
     Need {
-        item: Item::Relation(Name { bytes }),
+        item: Item::Relation(*relation),
         mode,
     }
 }
@@ -309,9 +311,9 @@ pub(crate) fn tuple_need(relation: &Name, tid: Tid, mode: Mode) -> Need
     ensures is { result ≡ need (TupleItem relation.now tid) mode }
     ensures sayable { IsSayable (TupleItem relation.now tid) }
 {
-    let Name { bytes } = *relation;
+    name_is_whole(*relation);
     Need {
-        item: Item::Tuple(Name { bytes }, tid),
+        item: Item::Tuple(*relation, tid),
         mode,
     }
 }

@@ -13,7 +13,9 @@ ghost use Rattle.rss_rsi.specs.Looking.{MayLook, LooksFor, LooksUp, FindsHeld, F
 use crate::Rss;
 use crate::locking::Access;
 use rss_access::tuple_of;
-use rss_base::{Body, CallError, Name, Need, PAGE_ENTRIES, Place, Refusal, Tid, Tuple};
+use rss_base::{
+    Body, CallError, Name, Need, PAGE_ENTRIES, Place, Refusal, Tid, Tuple, name_is_whole,
+};
 use rss_buffer::Saving;
 
 /// A tuple, and the locks that the call needs that looks for it.
@@ -126,6 +128,6 @@ pub(crate) fn no_tuple(relation: &Name, tid: Tid) -> CallError
     ensures is { result ≡ Refused (NoTuple relation.now tid) }
     ensures short { IsShort (Err (NoTuple relation.now tid)) }
 {
-    let Name { bytes } = *relation;
-    CallError::Refused(Refusal::NoTuple(Name { bytes }, tid))
+    name_is_whole(*relation);
+    CallError::Refused(Refusal::NoTuple(*relation, tid))
 }

@@ -14,7 +14,7 @@ ghost use Rattle.rss_session.specs.Looks.{LooksOn};
 ghost use Rattle.rss_session.specs.Uniques.{IsBehind, IsUniqueBehind, IsBefore, IsNextUnique, FindsDuplicate, FindsLeast};
 
 use crate::Session;
-use rss_base::{IMAGES_MOST, Kind, Name, PageFault, Refusal, Tid};
+use rss_base::{IMAGES_MOST, Kind, Name, PageFault, Refusal, Tid, name_is_whole};
 use rss_buffer::Saving;
 use rss_catalog::Catalog;
 use std::cmp::Ordering;
@@ -143,6 +143,6 @@ pub(crate) fn duplicate(image: Name, tid: Tid) -> Refusal
     ensures is { result ≡ Duplicate image tid }
     ensures short { IsShort (Err (Duplicate image tid)) }
 {
-    let Name { bytes } = image;
-    Refusal::Duplicate(Name { bytes }, tid)
+    name_is_whole(image);
+    Refusal::Duplicate(image, tid)
 }
