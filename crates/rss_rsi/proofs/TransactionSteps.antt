@@ -19,7 +19,6 @@ use Rattle.rss_model.specs.Rules.{saved_now, if_no_log_room}
 use Rattle.rss_model.specs.Scans.{closed}
 use Rattle.rss_model.specs.Steps.{Step, refusal, unless_open, begun, with_save, restored, gone, ended, committing, left_at, undone_to}
 use Rattle.rss_model.specs.Steps.StepBy.{begins, saves, restores, ends, aborts, checkpoints}
-use Rattle.rss_stored.specs.Calls.{MayWrite}
 use Rattle.rss_stored.specs.Turns.{IsStopped}
 use Rattle.rss_model.proofs.StepKeeping.{steps_keep}
 use Rattle.rss_model.proofs.Tests.{goes_on}
@@ -35,7 +34,7 @@ use Rattle.rss_lock.specs.declared.locks.Locks.{Locks as LockTable}
 use Rattle.rss_session.specs.Sessions.{SessionView}
 use Rattle.rss_session.specs.declared.session.Session.{Session}
 use Rattle.rss_session.specs.Shown.{Shows}
-use Rattle.rss_rsi.specs.Views.{RssParts, AreScans, IsIn, end_after, engine_view}
+use Rattle.rss_rsi.specs.Views.{RssParts, AreScans, IsIn}
 use Rattle.rss_rsi.specs.Saving.{HasCheckpointOf}
 use Rattle.rss_rsi.proofs.Ways.{SameHeld, ScanTable, rss_parts, Leads, LeadsAll, stopped_by, leads_by, leads_held, keeps_same}
 
@@ -153,9 +152,9 @@ end_places_grow grows q (at_root is) = at_root is
 end_places_grow grows q (at_piece piece) = at_piece (record { index = piece.index; low = piece.low; high = omega (arith, piece.high, grows); is = piece.is })
 
 -- it writes no more than it may
-pub end_writes : (old new : RssParts) {n m : ℕ} {up up_now : Type 0} (t : ℕ) → WritesIn (IsEndPlace old.session.store.number old.session.store.root new.session.store.log.end) old.session.store.pages.disk new.session.store.pages.disk
-    → new.session.store.pages.writes ≤ old.session.store.pages.writes + new_pieces old.session.store.root (end_after old) + 2 → Appends end_size old.session new.session → MayWrite (engine_view old n up) (engine_view new m up_now) (End t)
-end_writes old new t only writes appends = (writes_among (end_places_grow appends) only, omega (arith, writes))
+pub end_writes : (old new : SessionView) → WritesIn (IsEndPlace old.store.number old.store.root new.store.log.end) old.store.pages.disk new.store.pages.disk → new.store.pages.writes ≤ old.store.pages.writes + new_pieces old.store.root (old.store.log.end + end_size) + 2 → Appends end_size old new
+    → WritesIn (IsEndPlace old.store.number old.store.root (old.store.log.end + end_size)) old.store.pages.disk new.store.pages.disk × (new.store.pages.writes ≤ old.store.pages.writes + (new_pieces old.store.root (old.store.log.end + end_size) + 2))
+end_writes old new only writes appends = (writes_among (end_places_grow appends) only, omega (arith, writes))
 
 -- ---- checkpoints
 
