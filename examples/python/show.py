@@ -6,12 +6,16 @@ import argparse
 import sys
 from collections import Counter
 from collections.abc import Iterator
+from typing import TypeVar
 
+from reader.catalog import Tid
 from reader.layout import HEAD_PAGES, NotAStore, Root
 from reader.picture import draw
 from reader.store import Store, read_store
 
 Fact = tuple[str, object, object]
+Place = TypeVar("Place", bound=tuple[int, Tid | None])
+Held = TypeVar("Held")
 
 SLOTS_TOLD = 16
 """How many slots are named one by one."""
@@ -108,7 +112,7 @@ def link_facts(store: Store) -> Iterator[Fact]:
             yield part, "last", link.last or "none"
 
 
-def compared(kind: str, saved: dict, opened: dict) -> Iterator[tuple[str, tuple, object]]:
+def compared(kind: str, saved: dict[Place, Held], opened: dict[Place, Held]) -> Iterator[tuple[str, Place, Held]]:
     """What is saved and found by an opening, and what only one of these has."""
     for key in sorted(saved.keys() | opened.keys(), key=lambda key: (key[0], key[1] or ())):
         before, after = saved.get(key), opened.get(key)
@@ -175,9 +179,8 @@ def shown(args: argparse.Namespace) -> str:
 
 
 def main() -> None:
-    sys.stdout.reconfigure(encoding="utf-8")
     try:
-        print(shown(words()))
+        sys.stdout.buffer.write(f"{shown(words())}\n".encode())
     except (NotAStore, OSError) as error:
         sys.exit(f"show.py: {error}")
 

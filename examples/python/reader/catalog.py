@@ -7,7 +7,7 @@ from dataclasses import dataclass, field
 from struct import Struct
 from typing import NamedTuple
 
-from .layout import PAGE_BYTES, SEGMENTS, Key, Space, reading, require, unpack
+from .layout import PAGE_BYTES, SEGMENTS, Key, Space, reading, require, required, unpack
 
 NAME = re.compile(rb"([a-z][a-z0-9_]{0,15})\0*")
 NAME_BYTES = 16
@@ -90,19 +90,12 @@ class Catalog:
 
 
 def read_name(data: bytes) -> str:
-    match = NAME.fullmatch(data)
-    require(match is not None)
-    return match[1].decode()
+    return required(NAME.fullmatch(data))[1].decode()
 
 
 def read_flag(number: int) -> bool:
     require(number < 2)
     return number == 1
-
-
-def relation_of(catalog: Catalog, number: int) -> Relation:
-    require(number in catalog.relations)
-    return catalog.relations[number]
 
 
 def read_segment(catalog: Catalog, number: int, data: bytes) -> None:
@@ -126,7 +119,7 @@ def read_relation(catalog: Catalog, number: int, data: bytes) -> None:
 
 def read_image(catalog: Catalog, number: int, data: bytes) -> None:
     name, relation_number, unique, count, levels, root, numbers = unpack(IMAGE, data)
-    relation = relation_of(catalog, relation_number)
+    relation = required(catalog.relations.get(relation_number))
     require(1 <= count <= FIELDS_MOST and levels > 0 and not any(numbers[count:]))
     require(all(1 <= k <= len(relation.fields) for k in numbers[:count]))
     fields = [relation.fields[k - 1] for k in numbers[:count]]
@@ -136,8 +129,8 @@ def read_image(catalog: Catalog, number: int, data: bytes) -> None:
 def read_link(catalog: Catalog, number: int, data: bytes) -> None:
     name, kind, parent_number, child_number, late, first, last = unpack(LINK, data)
     require((kind, parent_number > 0) in ((1, False), (2, True)))
-    parent = relation_of(catalog, parent_number) if kind == 2 else None
-    child = relation_of(catalog, child_number)
+    parent = required(catalog.relations.get(parent_number)) if kind == 2 else None
+    child = required(catalog.relations.get(child_number))
     ends = read_place(first), read_place(last)
     catalog.links[number] = Link(number, read_name(name), parent, child, read_flag(late), *ends)
 
@@ -174,8 +167,7 @@ def read_catalog(pages: dict[Key, bytes]) -> Catalog:
     catalog = Catalog()
     for listed in LISTED:
         for page in listed.pages:
-            key = Key(0, Space.SYSTEM, page)
             with reading(f"damaged catalog {page}"):
-                require(key in pages)
-                read_listed(catalog, listed, page, pages[key])
+                data = required(pages.get(Key(0, Space.SYSTEM, page)))
+                read_listed(catalog, listed, page, data)
     return catalog

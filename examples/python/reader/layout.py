@@ -6,6 +6,9 @@ from contextlib import contextmanager
 from dataclasses import dataclass
 from enum import IntEnum
 from struct import Struct
+from typing import TypeVar
+
+T = TypeVar("T")
 
 PAGE_BYTES = 4096
 PIECE_BYTES = 4000
@@ -42,6 +45,13 @@ def reading(place: str) -> Iterator[None]:
 def require(holds: bool) -> None:
     if not holds:
         raise OutOfForm
+
+
+def required(item: T | None) -> T:
+    """The item, which has to be there."""
+    if item is None:
+        raise OutOfForm
+    return item
 
 
 def unpack(form: Struct, data: bytes) -> tuple:
@@ -135,8 +145,8 @@ class Root:
 
 
 def read_root(page: bytes) -> Root:
-    _, *numbers, end = ROOT.unpack(page[: ROOT.size])
-    root = Root(*numbers, end, tail=page[ROOT.size : ROOT.size + end % PIECE_BYTES])
+    _, *numbers = ROOT.unpack(page[: ROOT.size])
+    root = Root(*numbers, page[ROOT.size : ROOT.size + numbers[-1] % PIECE_BYTES])
     require(root.is_well_formed() and root.spelled() == page)
     return root
 
@@ -161,7 +171,7 @@ Map = dict[int, Key]
 
 
 def read_key(entry: bytes, slots: int) -> Key:
-    """The page that the entry of a slot names, if the slot isn't free."""
+    """The page that the entry of a slot names."""
     space, segment, number = unpack(MAP_ENTRY, entry)
     if space == Space.SYSTEM:
         require(segment == 0 and number < SYSTEM_PAGES)
@@ -222,11 +232,13 @@ class Layout:
         return kept[self.root.head % PIECE_BYTES :]
 
 
-def read_other_root(device: Device, selected: int) -> Root | None:
+def read_other_root(device: Device, number: int, root: Root) -> Root | None:
+    """The root that isn't selected, if it is one of a store of the same sizes."""
     try:
-        return read_root(device.page(3 - selected))
+        other = read_root(device.page(number))
     except OutOfForm:
         return None
+    return other if (other.slots, other.log_pages) == (root.slots, root.log_pages) else None
 
 
 def read_other_map(device: Device, root: Root) -> Map | None:
@@ -248,4 +260,5 @@ def read_layout(device: Device) -> Layout:
     pages = read_map(device, root, root.area)
     with reading("damaged room"):
         require(2 * len(pages) <= root.slots)
-    return Layout(device, selected, root, read_other_root(device, selected), pages, read_other_map(device, root))
+    other_root = read_other_root(device, 3 - selected, root)
+    return Layout(device, selected, root, other_root, pages, read_other_map(device, root))

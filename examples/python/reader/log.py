@@ -1,12 +1,13 @@
 """The log: its records, and which of its changes are committed (docs/LOG.md, docs/RECOVERY.md)."""
 from __future__ import annotations
 
+from collections import defaultdict
 from dataclasses import dataclass, replace
 from enum import Enum
 from struct import Struct
 
 from .catalog import TID, Catalog, Tid, read_place
-from .layout import Layout, reading, require
+from .layout import Layout, reading, require, required
 from .values import read_values
 
 VALUES_MOST = 2048
@@ -80,31 +81,29 @@ class Reader:
         self.data = data
         self.at = 0
 
-    def bytes(self, count: int) -> bytes:
+    def take(self, count: int) -> bytes:
         require(self.at + count <= len(self.data))
         self.at += count
         return self.data[self.at - count : self.at]
 
     def number(self, form: Struct) -> int:
-        return form.unpack(self.bytes(form.size))[0]
+        return form.unpack(self.take(form.size))[0]
 
     def byte(self) -> int:
-        return self.bytes(1)[0]
+        return self.take(1)[0]
 
     def place(self) -> Tid | None:
-        place = read_place(self.bytes(TID.size))
+        place = read_place(self.take(TID.size))
         require(place is None or place.slot < PAGE_SLOTS)
         return place
 
     def tid(self) -> Tid:
-        tid = self.place()
-        require(tid is not None)
-        return tid
+        return required(self.place())
 
     def values(self) -> bytes:
         length = self.number(LENGTH)
         require(length <= VALUES_MOST)
-        return self.bytes(length)
+        return self.take(length)
 
     def firsts(self) -> dict[int, int]:
         count = self.byte()
@@ -133,10 +132,10 @@ def require_listed(record: Record, catalog: Catalog) -> None:
     """Sees that a change is of a relation or a link that is there, and has values of its fields."""
     match record:
         case TupleChange():
-            require(record.relation in catalog.relations)
+            relation = required(catalog.relations.get(record.relation))
             for values in (record.old, record.new):
                 if values is not None:
-                    read_values(values, catalog.relations[record.relation].fields)
+                    read_values(values, relation.fields)
         case ChainChange():
             require(record.link in catalog.links)
 
@@ -166,28 +165,29 @@ class Outcome(Enum):
 
 @dataclass(frozen=True)
 class Fate:
-    """The outcome of a change, and the position of the record that decided on it."""
+    """What became of a change, and the position of the record that decided on it."""
 
-    outcome: Outcome
+    change: Change
+    outcome: Outcome = Outcome.OPEN
     at: int | None = None
 
 
 def fates(records: dict[int, Record]) -> dict[int, Fate]:
     """The fate of each change, by its position."""
     found: dict[int, Fate] = {}
-    listed: dict[int, list[int]] = {}
+    listed: dict[int, list[int]] = defaultdict(list)
 
     def decide(by: int, outcome: Outcome, at: int, since: int = 0) -> None:
-        for change in listed.get(by, []):
-            if change >= since:
-                found[change] = Fate(outcome, at)
-        listed[by] = [change for change in listed.get(by, []) if change < since]
+        for position in listed[by]:
+            if position >= since:
+                found[position] = replace(found[position], outcome=outcome, at=at)
+        listed[by] = [position for position in listed[by] if position < since]
 
     for at, record in records.items():
         match record:
             case TupleChange() | ChainChange():
-                found[at] = Fate(Outcome.OPEN)
-                listed.setdefault(record.by, []).append(at)
+                found[at] = Fate(record)
+                listed[record.by].append(at)
             case Restore():
                 decide(record.by, Outcome.TAKEN_BACK, at, since=record.position)
             case Abort():

@@ -5,6 +5,7 @@ from __future__ import annotations
 from collections import Counter
 from dataclasses import dataclass
 from functools import cached_property
+from itertools import groupby
 
 from .layout import PIECE_BYTES, Key, Root, Space
 from .log import Outcome
@@ -32,7 +33,7 @@ RING_WIDTH = 22
 NUMBERED_MOST = 16
 """How many log pages have their numbers in the ring."""
 DIVIDED_MOST = 64
-"""How many log pages are divided by lines there."""
+"""How many log pages and how many records are divided by lines there."""
 
 COLOURS = {
     "selector": "#f4d35e",
@@ -252,7 +253,7 @@ class State:
     def angle(self, position: int) -> float:
         return position / PIECE_BYTES / self.root.log_pages * 360
 
-    def draw_band(self, inner: float, outer: float, since: int, until: int, **attributes: str | float) -> None:
+    def draw_band(self, inner: float, outer: float, since: int, until: int, /, **attributes: str | float) -> None:
         """The part of the ring from one position of the log to another one."""
         first = self.angle(since)
         last = max(self.angle(until), first + 1.5)
@@ -284,6 +285,8 @@ class State:
 
     def draw_record_bands(self, inner: float) -> None:
         starts = list(self.store.records)
+        if len(starts) > DIVIDED_MOST:
+            starts = [next(group) for _, group in groupby(starts, key=self.record_colour)]
         for at, end in zip(starts, [*starts[1:], self.root.end]):
             self.draw_band(inner - 8, inner - 2, at, end, fill=self.record_colour(at), stroke=LINE, stroke_width=0.5)
 
@@ -315,7 +318,7 @@ class State:
         style: dict[str, str | float] = {"fill": self.record_colour(at), "stroke": LINE, "stroke_width": 0.7}
         if fate is not None and fate.outcome is not Outcome.COMMITTED:
             style["stroke_dasharray"] = "3 2"
-        words = cut(f"{at}  {self.store.record_words(self.store.records[at])}", 44)
+        words = cut(f"{at}  {self.store.record_words(self.store.records[at])}", 50 if fate is None else 42)
         self.parts.append(box(RECORD_X, y, width, RECORD_HEIGHT - 2, **style))
         self.parts.append(text(RECORD_X + 6, y + 11.5, words))
         if fate is not None:
@@ -364,7 +367,7 @@ def legend(y: float, with_changes: bool) -> list[str]:
     if with_changes:
         looks.append(("other bytes than above", Look(None, is_changed=True)))
     parts = []
-    x = MARGIN
+    x: float = MARGIN
     for words, look in looks:
         parts.append(box(x, y, 14, 12, **look.attributes()))
         parts.append(text(x + 20, y + 10, words, class_="small"))
@@ -376,7 +379,7 @@ def draw(stores: list[Store]) -> str:
     """The picture of several states of a store, or of one."""
     rows = find_rows(stores)
     parts: list[str] = []
-    top = MARGIN / 2
+    top: float = MARGIN / 2
     for before, store in zip([None, *stores], stores):
         state = State(store, before, rows, top)
         end = state.draw()

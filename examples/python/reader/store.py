@@ -33,7 +33,7 @@ class Store:
     @cached_property
     def opened(self) -> Tables:
         """The tables to which the store opens."""
-        return recover(self.saved, self.records, self.layout.root.checkpoint)
+        return recover(self.saved, self.fates, self.layout.root.checkpoint)
 
     def segment_name(self, number: int) -> str:
         return self.catalog.segments.get(number, f"segment {number}")

@@ -22,7 +22,7 @@ def number(value: float) -> str:
     return f"{round(value, 1):g}"
 
 
-def element(tag: str, content: str = "", **attributes: str | float) -> str:
+def element(tag: str, content: str = "", /, **attributes: str | float) -> str:
     """An element; of an attribute's name a line below becomes a hyphen, and goes at its end."""
     written = (
         f' {name.rstrip("_").replace("_", "-")}="{value if isinstance(value, str) else number(value)}"'
@@ -31,11 +31,11 @@ def element(tag: str, content: str = "", **attributes: str | float) -> str:
     return f"<{tag}{''.join(written)}>{content}</{tag}>"
 
 
-def text(x: float, y: float, words: str, **attributes: str | float) -> str:
+def text(x: float, y: float, words: str, /, **attributes: str | float) -> str:
     return element("text", escape(words, quote=False), x=x, y=y, **attributes)
 
 
-def box(x: float, y: float, width: float, height: float, **attributes: str | float) -> str:
+def box(x: float, y: float, width: float, height: float, /, **attributes: str | float) -> str:
     return element("rect", x=x, y=y, width=width, height=height, rx=3, **attributes)
 
 
@@ -46,7 +46,9 @@ def arrow(path: str, is_later: bool = False) -> str:
 def arch(x: float, to_x: float, y: float) -> str:
     """The path from the top of one box over others to the top of another."""
     top = y - 14 - abs(to_x - x) / 16
-    return f"M{number(x)} {number(y)}C{number(x)} {number(top)} {number(to_x)} {number(top)} {number(to_x)} {number(y - 2)}"
+    points = ((x, y), (x, top), (to_x, top), (to_x, y - 2))
+    start, *bends = (f"{number(point_x)} {number(point_y)}" for point_x, point_y in points)
+    return f"M{start}C{' '.join(bends)}"
 
 
 def on_circle(x: float, y: float, radius: float, degrees: float) -> tuple[float, float]:
@@ -54,7 +56,9 @@ def on_circle(x: float, y: float, radius: float, degrees: float) -> tuple[float,
     return x + radius * sin(radians(degrees)), y - radius * cos(radians(degrees))
 
 
-def band(x: float, y: float, inner: float, outer: float, since: float, until: float, **attributes: str | float) -> str:
+def band(
+    x: float, y: float, inner: float, outer: float, since: float, until: float, /, **attributes: str | float
+) -> str:
     """The part of a ring between two angles, at most all of it."""
     until = min(until, since + 359.9)
     is_large = int(until - since > 180)

@@ -7,8 +7,8 @@ from dataclasses import dataclass, field
 from struct import Struct
 
 from .catalog import TID, Catalog, Link, Relation, Tid, read_place
-from .layout import PAGE_BYTES, Key, Space, reading, require, unpack
-from .log import ChainChange, Change, Outcome, Record, TupleChange, fates
+from .layout import PAGE_BYTES, Key, Space, reading, require, required, unpack
+from .log import ChainChange, Change, Fate, Outcome, TupleChange
 from .values import read_values
 
 HEADER = Struct(">BB2xI8x")
@@ -34,9 +34,8 @@ class Tables:
 
 
 def read_entry(pages: Pages, key: Key, slot: int) -> bytes:
-    require(key in pages and slot < ENTRIES)
-    page = pages[key]
-    require(page[: HEADER.size] == HEADER.pack(key.space, key.segment, key.number))
+    page = required(pages.get(key))
+    require(slot < ENTRIES and page[: HEADER.size] == HEADER.pack(key.space, key.segment, key.number))
     return page[HEADER.size + ENTRY_BYTES * slot :][:ENTRY_BYTES]
 
 
@@ -74,8 +73,8 @@ class Body:
 
 
 def read_parts(catalog: Catalog, segment: int, data: bytes) -> Body:
-    relation = catalog.relations.get(data[0])
-    require(relation is not None and relation.segment == segment)
+    relation = required(catalog.relations.get(data[0]))
+    require(relation.segment == segment)
     data = data[1:]
     blocks = {}
     for number, link in sorted(catalog.links.items()):
@@ -119,11 +118,11 @@ def ends_of(bodies: Bodies, link: Link) -> dict[Tid | None, tuple[Tid | None, Ti
 
 def walk(bodies: Bodies, link: Link, first: Tid | None) -> list[Tid]:
     """The tuples of a chain, by the last pointer of each one's block."""
-    chain = []
+    chain: list[Tid] = []
     tid = first
     while tid is not None:
-        body = bodies.get((link.child.segment, tid))
-        require(body is not None and body.relation == link.child and tid not in chain)
+        body = required(bodies.get((link.child.segment, tid)))
+        require(body.relation == link.child and tid not in chain)
         chain.append(tid)
         tid = read_place(body.blocks[link.number][-TID.size :])
     return chain
@@ -184,15 +183,15 @@ def make(tables: Tables, at: int, change: Change) -> None:
             change_chain(tables, change)
 
 
-def recover(saved: Tables, records: dict[int, Record], checkpoint: int) -> Tables:
+def recover(saved: Tables, found: dict[int, Fate], checkpoint: int) -> Tables:
     """The tables to which a store opens: changes that were listed at the checkpoint and aren't committed are
     undone, the newest first, and those behind it that are committed are made, in their order."""
     tables = deepcopy(saved)
-    found = fates(records)
-    committed = {at for at, fate in found.items() if fate.outcome is Outcome.COMMITTED}
-    listed = {at for at, fate in found.items() if at < checkpoint and (fate.at is None or fate.at > checkpoint)}
-    for at in sorted(listed - committed, reverse=True):
-        make(tables, at, records[at].undone())
-    for at in sorted(at for at in committed if at > checkpoint):
-        make(tables, at, records[at])
+    for at, fate in reversed(found.items()):
+        is_listed = at < checkpoint and (fate.at is None or fate.at > checkpoint)
+        if is_listed and fate.outcome is not Outcome.COMMITTED:
+            make(tables, at, fate.change.undone())
+    for at, fate in found.items():
+        if at > checkpoint and fate.outcome is Outcome.COMMITTED:
+            make(tables, at, fate.change)
     return tables
