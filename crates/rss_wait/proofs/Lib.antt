@@ -1,0 +1,4 @@
+mod Members
+mod Loops
+mod Cycles
+mod Keeping

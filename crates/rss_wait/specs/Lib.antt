@@ -1,0 +1,4 @@
+pub mod Waits
+pub mod Kept
+pub mod Held
+pub mod Queues
