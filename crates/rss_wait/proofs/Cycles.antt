@@ -1,6 +1,6 @@
 -- A loop, from the one of its members on that began last.
-use Rattle.std.proofs.Common.{◌≡◌, inl, inr, ℕ, Bool, true, false, cond, List, [], ◌∷◌, ◌++◌, reverse, refl, sym, ◌∙◌, ap}
-use Rattle.std.specs.Prelude.{◌||◌, Option, Some, None, is_some, is_none, find, IfNone}
+use Rattle.std.proofs.Common.{◌≡◌, inl, inr, ℕ, Bool, true, cond, List, [], ◌∷◌, reverse, refl, sym, ◌∙◌, ap}
+use Rattle.std.specs.Prelude.{Option, Some, None, is_some, is_none, find, IfNone}
 use Rattle.std.proofs.lemmas.Bool.{cases_Bool, cond-true, cond-false, or_left, or_right, true≢false}
 use Rattle.std.proofs.lemmas.List.{reverse-append}
 use Rattle.rss_wait.specs.declared.wait.Wait.{Wait}

@@ -1,13 +1,13 @@
 -- What the calls keep of the lists.
-use Rattle.std.proofs.Common.{◌≡◌, ◌≢◌, ◌⊎◌, inl, inr, ℕ, zero, suc, ◌+◌, ◌<◌, ◌≤◌, Bool, true, false, not, cond, List, [], ◌∷◌, ◌++◌, length, take, get_or, refl, sym, ◌∙◌, ap, ap₂, subst, arith, length-append}
-use Rattle.std.specs.Prelude.{◌||◌, ◌==◌, Option, Some, None, find, filter, slice_set}
+use Rattle.std.proofs.Common.{◌≡◌, ◌≢◌, ◌⊎◌, inl, inr, ℕ, zero, suc, ◌<◌, ◌≤◌, Bool, true, false, not, cond, List, [], ◌∷◌, ◌++◌, length, take, get_or, refl, sym, ◌∙◌, ap, ap₂, subst, arith, length-append}
+use Rattle.std.specs.Prelude.{◌||◌, ◌==◌, slice_set}
 use Rattle.std.specs.List.{refill}
 use Rattle.std.proofs.lemmas.List.{take_all, append-nil, drop_all}
 use Rattle.std.proofs.lemmas.Bool.{cases_Bool, cases_eq, cond-true, cond-false, eqb-true, eq-eqb, ne_eqb, or_right, or_from, true≢false, false_from_ne_true}
 use Rattle.rss_wait.specs.declared.wait.Wait.{Wait}
 use Rattle.rss_wait.specs.Waits.{is_in, IsOnce, without, without_wait, all_again, waiting_for}
 use Rattle.rss_wait.specs.Kept.{waiters, AreWaiting}
-use Rattle.rss_wait.proofs.Members.{in_both, in_itself, cases_in, not_in, apart_in, few}
+use Rattle.rss_wait.proofs.Members.{in_both, in_itself, cases_in, apart_in, few}
 use Rattle.rss_wait.proofs.Loops.{length-waiters}
 
 -- ---- begun
@@ -33,13 +33,13 @@ pub in_without : (us : List ℕ) (t u : ℕ) → is_in (without t us) u ≡ true
 in_without [] t u there = absurd (true≢false (sym there))
 in_without (v ∷ us) t u there = elim (cases_eq v t) [
   | inl same ↦
-    let rest = in_without us t u (ap (λ (b : Bool). is_in (cond (not b) (v ∷ without t us) (without t us)) u) (sym (eq-eqb v t same)) ∙ there) in
-    (or_right (v == u) (is_in us u) rest.0, rest.1)
+      let rest = in_without us t u (ap (λ (b : Bool). is_in (cond (not b) (v ∷ without t us) (without t us)) u) (sym (eq-eqb v t same)) ∙ there) in
+      (or_right (v == u) (is_in us u) rest.0, rest.1)
   | inr differ ↦
-    elim (cases_in u v (without t us) (ap (λ (b : Bool). is_in (cond (not b) (v ∷ without t us) (without t us)) u) (sym (ne_eqb v t differ)) ∙ there)) [
-      | inl is ↦ (ap (λ (w : ℕ). is_in (w ∷ us) u) is ∙ in_itself u us, λ same. differ (is ∙ same))
-      | inr more ↦ let rest = in_without us t u more in (or_right (v == u) (is_in us u) rest.0, rest.1)
-    ]
+      elim (cases_in u v (without t us) (ap (λ (b : Bool). is_in (cond (not b) (v ∷ without t us) (without t us)) u) (sym (ne_eqb v t differ)) ∙ there)) [
+        | inl is ↦ (ap (λ (w : ℕ). is_in (w ∷ us) u) is ∙ in_itself u us, λ same. differ (is ∙ same))
+        | inr more ↦ let rest = in_without us t u more in (or_right (v == u) (is_in us u) rest.0, rest.1)
+      ]
 ]
 
 pub without_in : (us : List ℕ) (t u : ℕ) → is_in us u ≡ true → u ≢ t → is_in (without t us) u ≡ true
@@ -60,7 +60,7 @@ once_without [] t once = tt
 once_without (v ∷ us) t once = elim (cases_Bool (v == t)) [
   | inl same ↦ subst (λ (b : Bool). IsOnce (cond (not b) (v ∷ without t us) (without t us))) (sym same) (once_without us t once.1)
   | inr differ ↦ subst (λ (b : Bool). IsOnce (cond (not b) (v ∷ without t us) (without t us))) (sym differ)
-    (false_from_ne_true (is_in (without t us) v) (λ there. true≢false (sym (in_without us t v there).0 ∙ once.0)), once_without us t once.1)
+      (false_from_ne_true (is_in (without t us) v) (λ there. true≢false (sym (in_without us t v there).0 ∙ once.0)), once_without us t once.1)
 ]
 
 short_without : (us : List ℕ) (t : ℕ) → length (without t us) ≤ length us
@@ -89,8 +89,8 @@ gone_kept opened waits t are =
       few = omega (arith, are.few, short_without opened t);
       once = subst IsOnce (sym is) are.once;
       are_open = λ u there.
-      let waits_on : is_in (waiters (without_wait t waits)) u ≡ true = ap (λ (l : List ℕ). is_in l u) (sym is) ∙ there in
-      without_in opened t u (are.are_open u waits_on) (in_without (waiters waits) t u (ap (λ (l : List ℕ). is_in l u) (sym (others_wait waits t)) ∙ waits_on)).1;
+          let waits_on : is_in (waiters (without_wait t waits)) u ≡ true = ap (λ (l : List ℕ). is_in l u) (sym is) ∙ there in
+          without_in opened t u (are.are_open u waits_on) (in_without (waiters waits) t u (ap (λ (l : List ℕ). is_in l u) (sym (others_wait waits t)) ∙ waits_on)).1;
     }
 
 pub length-again : (waits : List Wait) → length (all_again waits) ≡ length waits
@@ -119,12 +119,14 @@ once_waiting : (waits : List Wait) (t holder : ℕ) → IsOnce (waiters waits) �
 once_waiting [] t holder once = (refl, tt)
 once_waiting (wait ∷ waits) t holder once = elim (cases_Bool (wait.by == t)) [
   | inl same ↦ subst (λ (b : Bool). IsOnce (waiters (cond b (record { by = t; holder = holder; again = false } ∷ waits) (wait ∷ waiting_for t holder waits)))) (sym same)
-    (ap (is_in (waiters waits)) (sym (eqb-true wait.by t same)) ∙ once.0, once.1)
-  | inr differ ↦ subst (λ (b : Bool). IsOnce (waiters (cond b (record { by = t; holder = holder; again = false } ∷ waits) (wait ∷ waiting_for t holder waits)))) (sym differ)
-    (false_from_ne_true (is_in (waiters (waiting_for t holder waits)) wait.by) (λ there. elim (in_waiting waits t holder wait.by there) [
+      (ap (is_in (waiters waits)) (sym (eqb-true wait.by t same)) ∙ once.0, once.1)
+  | inr differ ↦ subst (λ (b : Bool). IsOnce (waiters (cond b (record { by = t; holder = holder; again = false } ∷ waits) (wait ∷ waiting_for t holder waits)))) (sym differ) (
+    false_from_ne_true (is_in (waiters (waiting_for t holder waits)) wait.by) (λ there. elim (in_waiting waits t holder wait.by there) [
       | inl is ↦ true≢false (sym (eq-eqb wait.by t (sym is)) ∙ differ)
       | inr more ↦ true≢false (sym more ∙ once.0)
-    ]), once_waiting waits t holder once.1)
+    ]),
+    once_waiting waits t holder once.1,
+  )
 ]
 
 pub wait_kept : (opened : List ℕ) (waits : List Wait) (t holder : ℕ) → is_in opened t ≡ true → AreWaiting opened waits → AreWaiting opened (waiting_for t holder waits)
@@ -140,10 +142,15 @@ wait_kept opened waits t holder there are = record {
 -- there is room for one more
 pub room_waits : (opened : List ℕ) (waits : List Wait) (t : ℕ) → AreWaiting opened waits → is_in opened t ≡ true → is_in (waiters waits) t ≡ false → length waits < 32
 room_waits opened waits t are there away =
-    omega (arith, are.few, length-waiters waits, few (t ∷ waiters waits) opened (away, are.once) (λ u has. elim (cases_in u t (waiters waits) has) [
-      | inl is ↦ ap (is_in opened) (sym is) ∙ there
-      | inr more ↦ are.are_open u more
-    ]))
+    omega (
+      arith,
+      are.few,
+      length-waiters waits,
+      few (t ∷ waiters waits) opened (away, are.once) (λ u has. elim (cases_in u t (waiters waits) has) [
+        | inl is ↦ ap (is_in opened) (sym is) ∙ there
+        | inr more ↦ are.are_open u more
+      ]),
+    )
 
 pub few_wait : (opened : List ℕ) (waits : List Wait) → AreWaiting opened waits → length waits ≤ 32
 few_wait opened waits are = omega (arith, are.few, length-waiters waits, few (waiters waits) opened are.once are.are_open)

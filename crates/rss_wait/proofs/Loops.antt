@@ -1,12 +1,11 @@
 -- Ways along holders.
-use Rattle.std.proofs.Common.{◌≡◌, ◌≢◌, inl, inr, ℕ, ◌+◌, ◌≤◌, Bool, true, false, List, [], ◌∷◌, ◌++◌, length, map, refl, sym, ◌∙◌, ap, ap₂, subst, arith, length-append}
+use Rattle.std.proofs.Common.{◌≡◌, ◌≢◌, inl, inr, ℕ, ◌≤◌, Bool, true, false, List, [], ◌∷◌, ◌++◌, length, refl, sym, ◌∙◌, ap, ap₂, subst, arith, length-append}
 use Rattle.std.specs.Prelude.{◌||◌, ◌==◌, Option, Some, None, is_some, is_none, cond, find, option_map}
 use Rattle.std.proofs.lemmas.Bool.{cases_Bool, or_left, or_right, or_parts, true≢false, false_from_ne_true}
-use Rattle.std.proofs.lemmas.List.{append-nil}
 use Rattle.rss_wait.specs.declared.wait.Wait.{Wait}
 use Rattle.rss_wait.specs.Waits.{is_in, IsOnce, holder_of, first_or, Follow, IsLoop}
 use Rattle.rss_wait.specs.Kept.{waiters}
-use Rattle.rss_wait.proofs.Members.{in_both, in_itself, cases_in, not_in, apart_in, Around, around, few, once_around, or_swap}
+use Rattle.rss_wait.proofs.Members.{in_both, cases_in, not_in, apart_in, around, few, once_around, or_swap}
 
 abbrev value_or : ℕ → Option ℕ → ℕ
 value_or n None = n

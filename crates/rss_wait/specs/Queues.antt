@@ -13,7 +13,8 @@ Each P (x ∷ xs) = P x × Each P xs
 -- with one more line, before the first of a greater number
 abbrev pub put_line : Held → List Held → List Held
 put_line line [] = line ∷ []
-put_line line (other ∷ lines) = if nat_lt line.number other.number then line ∷ other ∷ lines else other ∷ put_line line lines
+put_line line (other ∷ lines) =
+    if nat_lt line.number other.number then line ∷ other ∷ lines else other ∷ put_line line lines
 
 abbrev pub in_order : List Held → List Held
 in_order [] = []
@@ -38,7 +39,8 @@ number_of queue = option_map (λ (line : Held). line.number) (slice_get queue 0)
 -- these lines are an owner's, and their numbers rise
 abbrev pub AreRising : ℕ → List Held → Type 0
 AreRising t [] = Unit {0}
-AreRising t (line ∷ lines) = (line.owner ≡ t) × Each (λ (other : Held). line.number < other.number) lines × AreRising t lines
+AreRising t (line ∷ lines) =
+    (line.owner ≡ t) × Each (λ (other : Held). line.number < other.number) lines × AreRising t lines
 
 -- some lines of one owner, by their numbers
 pub record IsQueue (queue : List Held) : Type 0 where

@@ -1,5 +1,5 @@
 -- Which transaction waits for which, and the cycles of those that wait for one another.
-use Rattle.std.specs.Prelude.{◌≡◌, ℕ, Bool, true, false, ◌==◌, not, if◌then◌else◌, List, [], ◌∷◌, ◌++◌, Option, Some, None, option_map, find, filter, reverse}
+use Rattle.std.specs.Prelude.{◌≡◌, ℕ, Bool, true, false, ◌==◌, not, if◌then◌else◌, List, [], ◌∷◌, Option, Some, option_map, find, filter, reverse}
 use Rattle.std.specs.List.{list_any}
 use Rattle.rss_wait.specs.declared.wait.Wait.{Wait}
 

@@ -1,6 +1,6 @@
 // The lines that have no answer yet.
-ghost use Rattle.std.specs.Prelude.{◌≡◌, ◌≢◌, ◌<◌, ℕ, List, [], ◌∷◌, ◌++◌, length, Some, IfSome, IfNone, OnOk, OnErr};
-ghost use Rattle.std.specs.Prelude.{option_copied, slice_get, slice_index_or};
+ghost use Rattle.std.specs.Prelude.{◌≡◌, ◌≢◌, ◌<◌, ℕ, List, [], ◌∷◌, ◌++◌, length, Some};
+ghost use Rattle.std.specs.Prelude.{IfSome, IfNone, OnOk, OnErr, option_copied, slice_get, slice_index_or};
 ghost use Rattle.rss_wait.specs.Held.{first_of, popped, AreBefore, AllWait, IsLeastFree};
 ghost use Rattle.rss_wait.specs.Queues.{owner_of, number_of, free_owner, lesser, IsLeast};
 
@@ -79,7 +79,7 @@ impl HeldLines {
     {
         let place = place_of(&self.queues, owner)?;
         let line = self.queues[place].pop();
-        if self.queues[place].first().is_none() {
+        if self.queues[place].is_empty() {
             self.queues.remove(place);
         }
         line
@@ -110,9 +110,7 @@ fn place_of(queues: &[Queue], owner: u32) -> Option<usize>
     ensures none { IfNone result ((k : ℕ) → k < length queues.now
         → owner_of (slice_index_or queues.now k []) ≢ Some owner) }
 {
-    queues
-        .iter()
-        .position(|queue| queue.owner() == Some(owner))
+    queues.iter().position(|queue| queue.owner() == Some(owner))
 }
 
 /// The oldest first line of a queue: its number, and the place of the queue.

@@ -1,5 +1,6 @@
 // The lines of one owner.
-ghost use Rattle.std.specs.Prelude.{◌≡◌, [], ◌∷◌, ◌++◌, IfOk, OnOk, OnErr, option_copied, slice_get, option_map, drop};
+ghost use Rattle.std.specs.Prelude.{◌≡◌, ◌==◌, [], ◌∷◌, ◌++◌, length, drop, slice_get};
+ghost use Rattle.std.specs.Prelude.{IfOk, OnOk, OnErr, option_copied};
 ghost use Rattle.rss_wait.specs.Queues.{owner_of, number_of, free_owner};
 
 use crate::held::Held;
@@ -54,6 +55,12 @@ impl Queue {
         self.lines.front()
     }
 
+    pub(crate) fn is_empty(&self) -> bool
+        ensures { result ≡ (length self.now == 0) }
+    {
+        self.lines.is_empty()
+    }
+
     pub(crate) fn owner(&self) -> Option<u32>
         ensures { result ≡ owner_of self.now }
     {
@@ -71,6 +78,10 @@ impl Queue {
         ensures { result ≡ free_owner waits.now.waits self.now }
     {
         let owner = self.owner()?;
-        if waits.waits(owner) { None } else { Some(owner) }
+        if waits.waits(owner) {
+            None
+        } else {
+            Some(owner)
+        }
     }
 }

@@ -1,6 +1,6 @@
 // Who waits for whom.
-ghost use Rattle.std.specs.Prelude.{◌≡◌, ◌<◌, ◌+◌, true, false, [], ◌∷◌, ◌++◌, ℕ, List, length, IfSome, IfNone, is_some, option_map};
-ghost use Rattle.std.specs.Prelude.{◌==◌, slice_get, slice_index_or};
+ghost use Rattle.std.specs.Prelude.{◌≡◌, ◌<◌, ◌==◌, true, false, [], ◌∷◌, ◌++◌, ℕ, List, length};
+ghost use Rattle.std.specs.Prelude.{IfSome, IfNone, is_some, option_map, slice_get, slice_index_or};
 ghost use Rattle.rss_wait.specs.declared.wait.Wait.{Wait};
 ghost use Rattle.rss_wait.specs.Waits.{is_in, without, without_wait, all_again, waiting_for, holder_of};
 ghost use Rattle.rss_wait.specs.Waits.{first_again, IsCycle};
@@ -78,7 +78,10 @@ impl Waits {
     pub fn first_again(&self) -> Option<u32>
         ensures { result ≡ option_map (λ wait. wait.by) (first_again self.now.waits) }
     {
-        self.waits.iter().find(|wait| wait.again).map(|wait| wait.by)
+        self.waits
+            .iter()
+            .find(|wait| wait.again)
+            .map(|wait| wait.by)
     }
 
     /// The call of a transaction has got its answer: the transaction waits no longer.

@@ -42,10 +42,10 @@ pub returns-clause-closed : goal.returns-clause-closed
 returns-clause-closed c =
     let waits : c.deref-3.result.now ≡ c.args.self.now.waits = c.deref-3.ensures.0 ∙ ap (λ (v : WaitsView). v.waits) c.self.view_is in
     IfSome_then c.cycle_from-2.result c.cycle_from-2.ensures.some (λ cycle is. a_cycle c.args.self.now.opened c.args.self.now.waits c.args.t c.in_ok-last.last c.in_ok-cycle.cycle cycle (the_loop c) (the_last c)
-      (subst (λ (l : List Wait). IsLoop l c.in_ok-last.last cycle) waits is))
+    (subst (λ (l : List Wait). IsLoop l c.in_ok-last.last cycle) waits is))
 
 pub returns-clause-none : goal.returns-clause-none
 returns-clause-none c =
     let waits : c.deref-3.result.now ≡ c.args.self.now.waits = c.deref-3.ensures.0 ∙ ap (λ (v : WaitsView). v.waits) c.self.view_is in
     none_then c.cycle_from-2.result c.cycle_from-2.ensures.none (λ none. absurd (some_loop c.args.self.now.opened c.args.self.now.waits c.args.t c.in_ok-last.last c.in_ok-cycle.cycle (the_loop c) (the_last c)
-      (subst (λ (l : List Wait). NoLoop l c.in_ok-last.last) waits none)))
+    (subst (λ (l : List Wait). NoLoop l c.in_ok-last.last) waits none)))
