@@ -1,7 +1,7 @@
 -- What C's calls do to a handle.
 use Rattle.std.specs.Prelude.{◌≡◌, ◌⊎◌, ℕ, ◌≤◌, Bool, true, false, List, length, slice_get, Option, None, Some, IfSome, IsSome, Result, Ok, Err}
-use Rattle.rss_base.specs.Streams.{Stream}
-use Rattle.rss_base.specs.declared.fault.OpenFault.{OpenFault}
+use Rattle.rss_base.specs.Faults.{Rises}
+use Rattle.rss_base.specs.Streams.{Stream, TakesFront}
 use Rattle.rss_device.specs.StepDevice.{view_of}
 use Rattle.rss_model.specs.Generator.{generated, most_employees}
 use Rattle.rss_top.specs.Exit.{exit_status}
@@ -15,6 +15,7 @@ use Rattle.rss_c.specs.declared.counts.RssCounts.{RssCounts}
 use Rattle.rss_c.specs.declared.ended.Ended.{Ended}
 use Rattle.rss_c.specs.declared.ended.Ended.TheVariants.{NotOpen, AlreadyOpen, NoLine}
 use Rattle.rss_c.specs.declared.open_store.OpenStore.{OpenStore}
+use Rattle.rss_c.specs.declared.open_store.Refused.{Refused}
 use Rattle.rss_c.specs.declared.handle.RssStore.{RssStore}
 use Rattle.rss_c.specs.declared.page.RssPage.{RssPage}
 use Rattle.rss_c.specs.declared.step.RssStep.{RssStep}
@@ -33,8 +34,8 @@ pub data FormatsIn (slots log_pages number : ℕ) (before after : Option OpenSto
   made : (new : OpenStore) → before ≡ None → after ≡ Some new → IsMadeOf slots log_pages new
       → number ≡ exit_status Made
       → FormatsIn slots log_pages number before after
-  unmade : (fault : OpenFault) → before ≡ None → after ≡ None → IsUnmade slots log_pages fault
-      → number ≡ exit_status (fault_status fault)
+  unmade : (why : Refused) → before ≡ None → after ≡ None → IsUnmade slots log_pages why
+      → number ≡ exit_status (fault_status why.fault)
       → FormatsIn slots log_pages number before after
   already : IsSome before → after ≡ before → number ≡ end_number AlreadyOpen
       → FormatsIn slots log_pages number before after
@@ -45,9 +46,9 @@ pub data OpensIn (bytes : List ℕ) (text : Stream) (number : ℕ) (before after
   opened : (new : OpenStore) → before ≡ None → after ≡ Some new → IsOpenedOn bytes new
       → text ≡ empty_text → number ≡ exit_status Made
       → OpensIn bytes text number before after
-  refused : (fault : OpenFault) (status : Status) → before ≡ None → after ≡ None
-      → AreRefused bytes fault
-      → Says (fault_status fault) (line_of (fault_status fault)) status empty_text text
+  refused : (why : Refused) (status : Status) → before ≡ None → after ≡ None
+      → AreRefused bytes why
+      → Says (fault_status why.fault) (line_of (fault_status why.fault)) status empty_text text
       → number ≡ exit_status status
       → OpensIn bytes text number before after
   already : IsSome before → after ≡ before → text ≡ empty_text
@@ -102,13 +103,21 @@ pub record CountsGenerated (employees lines : ℕ) : Type 0 where
   pub some : AreEmployees employees → (number : ℕ) → lines ≡ length (generated number employees)
   pub none : (AreEmployees employees → ⊥) → lines ≡ 0
 
--- A line of a generated script was written; or there is none; or the text or memory had no room.
+-- it is the line at this place of the script that is generated so
+abbrev pub IsGeneratedLine : ℕ → ℕ → ℕ → List ℕ → Type 0
+IsGeneratedLine number employees at line = slice_get (generated number employees) at ≡ Some line
+
+-- A line of a generated script was written; or the text had no room behind its front; or memory ran out for it; or there is none.
 pub data GeneratesAs (number employees at : ℕ) (text : Stream) (end : ℕ) : Type 0 where
-  written : (line : List ℕ) → slice_get (generated number employees) at ≡ Some line
+  written : (line : List ℕ) → IsGeneratedLine number employees at line
       → text.bytes ≡ Some line → end ≡ exit_status Made
+      → GeneratesAs number employees at text end
+  cut : (line : List ℕ) → IsGeneratedLine number employees at line
+      → TakesFront empty_text.bytes line text.bytes → Rises empty_text.faults text.faults
+      → end ≡ exit_status WriteFault
+      → GeneratesAs number employees at text end
+  lacking : AreEmployees employees → text ≡ empty_text → end ≡ exit_status NoMemory
       → GeneratesAs number employees at text end
   none : (AreEmployees employees → slice_get (generated number employees) at ≡ None)
       → text ≡ empty_text → end ≡ end_number NoLine
-      → GeneratesAs number employees at text end
-  failed : (end ≡ exit_status WriteFault) ⊎ (end ≡ exit_status NoMemory)
       → GeneratesAs number employees at text end

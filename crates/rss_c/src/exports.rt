@@ -47,7 +47,7 @@ pub extern "C" fn rss_format(alloc: Global, store: &mut RssStore, slots: u32, lo
             store.put(made);
             0
         }
-        Err(fault) => Ended::As(status_of(fault)).number(),
+        Err(refused) => Ended::As(status_of(refused.fault)).number(),
     }
 }
 
@@ -70,7 +70,7 @@ pub extern "C" fn rss_open(
             store.put(opened);
             0
         }
-        Err(fault) => Ended::As(tell(alloc, status_of(fault), text)).number(),
+        Err(refused) => Ended::As(tell(alloc, status_of(refused.fault), text)).number(),
     }
 }
 

@@ -1,7 +1,8 @@
 // A store that is open, with the variables of its lines and the steps of its device.
-ghost use Rattle.std.specs.Prelude.{◌≡◌, true, IfOk};
-ghost use Rattle.rss_device.specs.StepDevice.{IsFresh};
-ghost use Rattle.rss_rsi.specs.Parts.{view};
+ghost use Rattle.std.specs.Prelude.{◌≡◌, ◌≤◌, true};
+ghost use Rattle.rss_buffer.specs.Devices.{device_of};
+ghost use Rattle.rss_device.specs.StepDevice.{gone_of};
+ghost use Rattle.rss_rsi.specs.Parts.{pages_below, view};
 
 use crate::counts::RssCounts;
 use crate::ended::Ended;
@@ -9,14 +10,45 @@ use crate::page::RssPage;
 use crate::step::RssStep;
 use crate::telling::tell;
 use crate::text::RssText;
-use rss_base::{OpenFault, PAGE_BYTES, Page, Place};
+use rss_base::{OpenFault, PAGE_BYTES, Place};
 use rss_buffer::Buffer;
-use rss_device::{StepDevice, Taken};
+use rss_device::StepDevice;
 use rss_line::{Names, read_name};
 use rss_rsi::{MOST_FRAMES, Rss, format, open};
 use rss_stored::{CALLS_MOST, Engine};
 use rss_top::{Status, run_line};
-use std::alloc::{AllocError, Global};
+use std::alloc::Global;
+
+/// Why no store was opened, and the device as it was handed back. There is none at most of the ends
+/// for want of memory, nor where the bytes aren't whole pages.
+#[derive(Drop)]
+pub(crate) struct Refused {
+    pub(crate) fault: OpenFault,
+    pub(crate) device: Option<StepDevice>,
+}
+
+impl Refused {
+    ghost use Rattle.std.specs.Prelude.{Some};
+
+    fn without_device(fault: OpenFault) -> Refused
+        ensures { result.fault ≡ fault }
+    {
+        Refused {
+            fault,
+            device: None,
+        }
+    }
+
+    fn with(fault: OpenFault, device: StepDevice) -> Refused
+        ensures fault { result.fault ≡ fault }
+        ensures device { result.device ≡ Some device }
+    {
+        Refused {
+            fault,
+            device: Some(device),
+        }
+    }
+}
 
 /// A store that is open, with the variables of the lines that were run over it.
 pub struct OpenStore {
@@ -24,78 +56,78 @@ pub struct OpenStore {
     names: Names,
     /// It answers lines. After one that failed it doesn't.
     up: bool,
-    taken: Taken,
     /// The number of the step that is taken next.
     next: u64,
     ghost ready: { up ≡ true → (view engine).is_up },
+    ghost kept: { up ≡ true → gone_of (device_of (pages_below engine)) ≤ next },
 }
 
 impl OpenStore {
-    ghost use Rattle.std.specs.Prelude.{◌≤◌, false, IfErr, IsTrue};
+    ghost use Rattle.std.specs.Prelude.{◌≤◌, false, IfOk, IfErr, IsTrue};
     ghost use Rattle.rss_device.specs.StepDevice.{view_of};
     ghost use Rattle.rss_store.specs.Opening.{IsUnopened};
     ghost use Rattle.rss_c.specs.Texts.{text_view, empty_text};
-    ghost use Rattle.rss_c.specs.Stores.{device_in, AreRefused, IsMadeOf, IsOpenedOn, IsOver, IsUnmade};
+    ghost use Rattle.rss_c.specs.Stores.{device_in, AreRefused, FailsFor, IsMadeOf, IsOpenedOn, IsOver, IsUnmade};
     ghost use Rattle.rss_c.specs.Stores.{HasCounts, HasNoStep, HasPage, IsLevelsOf, IsLineEnd, TakesStep};
 
     /// Opens the store of these bytes.
-    pub(crate) fn open(alloc: Global, bytes: &[u8]) -> Result<Box<OpenStore>, OpenFault>
+    pub(crate) fn open(alloc: Global, bytes: &[u8]) -> Result<Box<OpenStore>, Refused>
         ensures opened { IfOk result (λ store. IsOpenedOn bytes.now store.value) }
         ensures refused { IfErr result (AreRefused bytes.now) }
     {
         let (pages, rest) = bytes.as_chunks::<PAGE_BYTES>();
         if !rest.is_empty() {
-            return Err(OpenFault::NotAStore(Place::Size));
+            let torn = OpenFault::NotAStore(Place::Size);
+            return Err(Refused::without_device(torn));
         }
         let Ok(pages) = Vec::from_slice(alloc, pages) else {
-            return Err(OpenFault::NoMemory);
+            return Err(Refused::without_device(OpenFault::NoMemory));
         };
-        let Ok((device, taken)) = device_of(alloc, pages) else {
-            return Err(OpenFault::NoMemory);
-        };
-        OpenStore::over(alloc, device, taken)
+        let device = StepDevice::new(alloc, pages);
+        OpenStore::over(alloc, device)
     }
 
     /// Makes an empty store of so many slots and log pages, and opens it.
-    pub(crate) fn make(
-        alloc: Global,
-        slots: u32,
-        log_pages: u32,
-    ) -> Result<Box<OpenStore>, OpenFault>
+    pub(crate) fn make(alloc: Global, slots: u32, log_pages: u32) -> Result<Box<OpenStore>, Refused>
         ensures made { IfOk result (λ store. IsMadeOf slots log_pages store.value) }
         ensures unmade { IfErr result (IsUnmade slots log_pages) }
     {
-        let Ok((mut device, taken)) = device_of(alloc, Vec::new(alloc)) else {
-            return Err(OpenFault::NoMemory);
-        };
-        format(alloc, &mut device, slots, log_pages)?;
-        OpenStore::over(alloc, device, taken)
+        let mut device = StepDevice::new(alloc, Vec::new(alloc));
+        if let Err(fault) = format(alloc, &mut device, slots, log_pages) {
+            return Err(Refused::with(fault, device));
+        }
+        OpenStore::over(alloc, device)
     }
 
     /// Opens the store on a device, of whose steps none was taken.
-    fn over(alloc: Global, device: StepDevice, taken: Taken) -> Result<Box<OpenStore>, OpenFault>
+    fn over(alloc: Global, device: StepDevice) -> Result<Box<OpenStore>, Refused>
         ensures opened { IfOk result (λ store. IsOver device store.value) }
-        ensures refused { IfErr result (IsUnopened (view_of device)) }
+        ensures refused { IfErr result (λ e. IsUnopened (view_of device) e.fault) }
+        ensures cause { IfErr result (FailsFor device) }
     {
         let engine = match open(alloc, device, MOST_FRAMES) {
             Ok(engine) => engine,
-            Err(unopened) => return Err(unopened.fault),
+            Err(unopened) => return Err(Refused::with(unopened.fault, unopened.device)),
         };
+        if engine.pages().device().gone() > 0 {
+            let device = engine.into_pages().into_device();
+            return Err(Refused::with(OpenFault::Device, device));
+        }
         let store = OpenStore {
             engine,
             names: Names::new(alloc),
             up: true,
-            taken,
             next: 0,
         };
         match Box::new(alloc, store) {
             Ok(store) => Ok(store),
-            Err(_) => Err(OpenFault::NoMemory),
+            Err(_) => Err(Refused::without_device(OpenFault::NoMemory)),
         }
     }
 
     /// Runs a line. Its reply is in the text; where the store was found to be damaged, the program's
-    /// line about that.
+    /// line about that. If a step is gone that wasn't taken, the device has failed: what the file
+    /// lacks must not go unseen.
     pub(crate) fn run(
         &mut self,
         alloc: Global,
@@ -121,6 +153,10 @@ impl OpenStore {
             &mut reply,
             text,
         );
+        if self.device().gone() > self.next {
+            text.clear();
+            return Err(Ended::As(Status::DeviceFault));
+        }
         match ran {
             Ok(()) => {
                 self.up = true;
@@ -156,8 +192,8 @@ impl OpenStore {
             return false;
         };
         step.put(taken);
+        self.device().forget(next);
         self.next = next;
-        self.taken.set(next);
         true
     }
 
@@ -206,18 +242,8 @@ impl Drop for OpenStore {
             engine,
             names: _,
             up: _,
-            taken: _,
             next: _,
         } = self;
         drop(engine.into_pages().into_device());
     }
-}
-
-/// A device of these pages, and the count of its steps that were taken.
-fn device_of(alloc: Global, pages: Vec<Page>) -> Result<(StepDevice, Taken), AllocError>
-    ensures { IfOk result (λ made. IsFresh pages.items made.0) }
-{
-    let taken = Taken::new(alloc)?;
-    let device = StepDevice::new(alloc, pages, taken.shared()?);
-    Ok((device, taken))
 }

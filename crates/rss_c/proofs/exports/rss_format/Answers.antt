@@ -6,4 +6,4 @@ pub returns-in-Ok : goal.returns-in-Ok
 returns-in-Ok c = made c.in-Ok.made.value (search rules) c.put.ensures c.in-Ok.ensures.made (search rules)
 
 pub returns-in-Err : goal.returns-in-Err
-returns-in-Err c = unmade c.in-Err.fault (search rules) (search rules) c.in-Err.ensures.unmade (search rules)
+returns-in-Err c = unmade c.in-Err.refused (search rules) (search rules) c.in-Err.ensures.unmade (search rules)

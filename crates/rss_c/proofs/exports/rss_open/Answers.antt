@@ -11,4 +11,4 @@ returns-in-Ok c =
 
 pub returns-in-Err : goal.returns-in-Err
 returns-in-Err c =
-    refused c.in-Err.fault c.tell.result (search rules) (search rules) c.in-Err.ensures.refused (search rules) (search rules)
+    refused c.in-Err.refused c.tell.result (search rules) (search rules) c.in-Err.ensures.refused (search rules) (search rules)
