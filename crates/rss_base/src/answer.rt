@@ -29,11 +29,9 @@ pub enum CallError {
     /// The pages are no store. It never comes over a device that tells its contents, and each later
     /// call is answered `Down`.
     Damaged(Place),
-    /// An earlier call has met a fault of the device or of its pages, or ran out of memory while it
-    /// changed pages.
+    /// An earlier call has met a fault of the device or of its pages.
     Down,
-    /// Memory ran out. A call that changes pages is then followed by `Down` alone; one that reads
-    /// has changed nothing.
+    /// Memory ran out. The call changed nothing, and the next one is answered.
     NoMemory,
 }
 
