@@ -1,6 +1,7 @@
 -- What is granted to one transaction leaves the others as they are, and disagrees with none of them.
 use Rattle.std.proofs.Common.{◌≡◌, ◌≢◌, ◌⊎◌, inl, inr, ℕ, suc, Bool, true, false, cond, ◌&&◌, ◌||◌, List, ◌∷◌, get_or, refl, sym, ◌∙◌, ap, subst, arith, eqb-true, eq-eqb}
 use Rattle.std.specs.Prelude.{Option, Some, None, ◌==◌, is_some, All, Contains}
+use Rattle.std.proofs.lemmas.Bool.{and_parts}
 use Rattle.rss_base.specs.declared.item.Item.{Item}
 use Rattle.rss_base.specs.declared.need.Mode.{Mode}
 use Rattle.rss_base.specs.declared.need.Need.{Need}
@@ -50,6 +51,20 @@ set_mode-cases mode t item to other = elim (cases (same_item item other)) [
 first_holds : (a b : Bool) → a && b ≡ true → a ≡ true
 first_holds true b p = refl
 first_holds false b p = absurd (true≢false (sym p))
+
+-- a need that t has already changes nothing
+pub given_same : (mode : Modes) (t : ℕ) (need : Need) → mode t need.item ≡ Some (with_mode (mode t need.item) need.mode) → given mode t need ≡ mode
+given_same mode t need has = λ i u item. at u item i
+  where
+    at : (u : ℕ) (item : Item) → given mode t need u item ≡ mode u item
+    at u item = elim (cases ((u == t) && same_item need.item item)) [
+      | inl here ↦
+          let parts = and_parts (u == t) (same_item need.item item) here in
+          let own : u ≡ t = eqb-true u t parts.0 in
+          let one : need.item ≡ item = (item_decides need.item item).0 parts.1 in
+          ap (λ (b : Bool). cond b (Some (with_mode (mode t need.item) need.mode)) (mode u item)) here ∙ sym has ∙ (λ i. mode (sym own i) (one i))
+      | inr apart ↦ ap (λ (b : Bool). cond b (Some (with_mode (mode t need.item) need.mode)) (mode u item)) apart
+    ]
 
 -- a mode agrees with another transaction's, where both the one held and the one needed do
 with_mode-agrees : (held : Option Mode) (needed other : Mode) → ((mode : Mode) → held ≡ Some mode → disagree mode other ≡ false) → disagree needed other ≡ false → disagree (with_mode held needed) other ≡ false

@@ -1,5 +1,5 @@
 -- The places of transactions, and the mode that each of them has on an item.
-use Rattle.std.proofs.Common.{◌≡◌, ◌⊎◌, inl, inr, ℕ, zero, suc, ◌+◌, ◌<◌, Bool, true, false, cond, List, [], ◌∷◌, length, get_or, set, refl, sym, ◌∙◌, ap, subst, arith}
+use Rattle.std.proofs.Common.{◌≡◌, ◌⊎◌, inl, inr, ℕ, zero, suc, ◌+◌, ◌<◌, ◌≤◌, Bool, true, false, cond, List, [], ◌∷◌, length, get_or, set, refl, sym, ◌∙◌, ap, subst, arith}
 use Rattle.std.proofs.Common.{◌||◌, eqb-true, eq-eqb}
 use Rattle.std.specs.Prelude.{Option, Some, None, is_none, nat_le, ◌==◌}
 use Rattle.std.proofs.Common.{replicate}
@@ -10,7 +10,7 @@ use mathlib.Core.Bool.{true≢false}
 use Rattle.std.specs.List.{list_any, AllByRecursion}
 use Rattle.rss_base.specs.declared.need.Mode.{Mode}
 use Rattle.rss_lock.specs.declared.places.Holder.{Holder}
-use Rattle.rss_lock.specs.Table.{is_of, counted, first, rest, held, current_modes, IsAlone, HasBegun}
+use Rattle.rss_lock.specs.Table.{AreAllOf, is_of, counted, first, rest, held, current_modes, IsAlone, HasBegun}
 
 -- ---- tests
 
@@ -86,6 +86,25 @@ some_of t (h ∷ hs) (suc p) here = any_later (is_of t) h hs (some_of t hs p her
 -- and where none is, no place is t's
 pub none_at : (t : ℕ) (holders : List (Option Holder)) (p : ℕ) → list_any (is_of t) holders ≡ false → is_of t (get_or holders p None) ≡ false
 none_at t holders p none = elim (cases (is_of t (get_or holders p None))) [ inl here ↦ absurd (true≢false (sym (some_of t holders p here) ∙ none)) | inr off ↦ off ]
+
+-- a transaction that has a place has one of those
+pub place_in : (t : ℕ) (holders : List (Option Holder)) → list_any (is_of t) holders ≡ true → (p : ℕ) × (is_of t (get_or holders p None) ≡ true)
+place_in t [] has = refuted has
+place_in t (h ∷ hs) has = elim (cases (is_of t h)) [
+  | inl here ↦ (0, here)
+  | inr off ↦ let later = place_in t hs (sym (ap (λ (b : Bool). b || list_any (is_of t) hs) off) ∙ has) in (suc later.0, later.1)
+]
+
+-- all places are t's, where those below an end are, and those from there on are free
+pub all_of : (t : ℕ) (holders : List (Option Holder)) (end : ℕ) → ((k : ℕ) → end ≤ k → get_or holders k None ≡ None) → ((k : ℕ) (h : Holder) → k < end → get_or holders k None ≡ Some h → h.transaction ≡ t) → AreAllOf t holders
+all_of t holders end free used u has = let at = place_in u holders has in by at.0 (get_or holders at.0 None) refl at.1
+  where
+    by : (p : ℕ) (o : Option Holder) → get_or holders p None ≡ o → is_of u o ≡ true → u ≡ t
+    by p None there its = refuted its
+    by p (Some h) there its = elim (cases_lt p end) [
+      | inl below ↦ sym (eqb-true h.transaction u its) ∙ used p h below there
+      | inr past ↦ absurd (let two : None ≡ Some h = sym (free p past) ∙ there in cc)
+    ]
 
 -- one place isn't that of two transactions
 pub one_of : (t u : ℕ) (holder : Option Holder) → is_of t holder ≡ true → is_of u holder ≡ true → u ≡ t

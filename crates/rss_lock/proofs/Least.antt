@@ -1,10 +1,11 @@
 -- The least number of which a fact holds, once the fact holds of more.
-use Rattle.std.proofs.Common.{◌≡◌, ◌⊎◌, inl, inr, ℕ, ◌+◌, ◌<◌, ◌≤◌, min, List, get_or, sym, subst, arith}
+use Rattle.std.proofs.Common.{◌≡◌, ◌⊎◌, inl, inr, ℕ, ◌+◌, ◌<◌, ◌≤◌, min, List, get_or, sym, ◌∙◌, ap, subst, arith}
 use Rattle.std.specs.Prelude.{Option, Some, None}
 use Rattle.std.proofs.lemmas.Bool.{cases_lt}
 use Rattle.rss_base.specs.declared.need.Mode.{Mode}
 use Rattle.rss_lock.specs.declared.places.Holder.{Holder}
-use Rattle.rss_lock.specs.Table.{IsLeast, IsLeastOf, DisagreesAt, DisagreesIn, lesser}
+use Rattle.rss_lock.specs.Table.{IsLeast, IsLeastOf, DisagreesAt, DisagreesIn, is_of, lesser}
+use mathlib.Core.Bool.{true≢false}
 
 -- the same numbers
 pub least_kept : (P Q : ℕ → Type 0) (least : Option ℕ) → ((t : ℕ) → P t → Q t) → ((t : ℕ) → Q t → P t) → IsLeastOf P least → IsLeastOf Q least
@@ -59,3 +60,14 @@ module _ (holders : List (Option Holder)) (modes : List (Option Mode)) (mode : M
 
   pub least_finds : (least : Option ℕ) (found : ℕ) → Here found → ((t : ℕ) → Here t → t ≡ found) → IsLeastOf Below least → IsLeast To (lesser least found)
   least_finds least found here one is = least_more Below To least found wider (here_too found here) (λ t q. elim (last t q.place q.within q.there) [ inl p ↦ inl p | inr h ↦ inr (one t h) ]) is
+
+-- ---- of all places, where those from an end on are free
+
+pub least_whole : (holders : List (Option Holder)) (modes : List (Option Mode)) (mode : Mode) (besides : Option ℕ) (end : ℕ) (least : Option ℕ) → end ≤ 32 → ((k : ℕ) → end ≤ k → get_or holders k None ≡ None)
+    → IsLeastOf (DisagreesIn holders modes mode besides end) least → IsLeastOf (DisagreesIn holders modes mode besides 32) least
+least_whole holders modes mode besides end least few free = least_kept (DisagreesIn holders modes mode besides end) (DisagreesIn holders modes mode besides 32) least
+    (λ t d. let below : d.place < end = d.within in record { place = d.place; within = omega arith; there = d.there })
+    (λ t d. elim (cases_lt d.place end) [
+      | inl below ↦ record { place = d.place; within = below; there = d.there }
+      | inr past ↦ absurd (true≢false (sym d.there.of ∙ ap (is_of t) (free d.place past)))
+    ])

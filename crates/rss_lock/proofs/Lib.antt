@@ -6,3 +6,4 @@ pub mod Telling
 pub mod Listing
 pub mod Machine
 pub mod Firsts
+pub mod Single

@@ -1,5 +1,5 @@
 -- What a lock table tells after a change of its places or of its items.
-use Rattle.std.proofs.Common.{◌≡◌, ◌⊎◌, inl, inr, ℕ, zero, suc, ◌+◌, ◌<◌, ◌≤◌, Bool, true, false, cond, ◌&&◌, ◌||◌, List, [], ◌∷◌, length, get_or, set, replicate, refl, sym, ◌∙◌, ap, subst, arith, eqb-true, eq-eqb, length-set, get_or-set_same}
+use Rattle.std.proofs.Common.{◌≡◌, ◌⊎◌, inl, inr, ℕ, zero, suc, ◌+◌, ◌<◌, ◌≤◌, Bool, true, false, cond, ◌&&◌, ◌||◌, List, [], ◌∷◌, length, get_or, set, replicate, refl, sym, ◌∙◌, ap, subst, arith, eqb-true, eq-eqb, length-set, get_or-set_same, rules}
 use Rattle.std.specs.Prelude.{Option, Some, None, nat_le, nat_eq, ◌==◌, is_some, is_none, Contains}
 use Rattle.std.specs.List.{list_any, AllByRecursion, IsDistinct, filter}
 use Rattle.std.specs.Map.{keys_of}
@@ -20,7 +20,7 @@ use Rattle.rss_lock.specs.declared.places.Grants.{Grants}
 use Rattle.rss_model.specs.Locks.{with_mode}
 use Rattle.rss_lock.specs.Table.{Modes, AllAgree, HoldersAreFew, Holds, IsUnbarred, given, without, Table, table, is_of, counted, held, held_in, modes_on, is_held, grants_on, mode_of, current_modes, HasRoomFor, Places, had, gets, IsAlone, HasBegun, IsTable}
 use Rattle.rss_lock.proofs.Holding.{one_of, none_set, held_at, held_none, held_place, held_current, held_set_other, freed_other, freed_own, freed_alone, given_held, given_alone, all_set, all_later, begun_at, current_at, nothing_in, length-current_modes}
-use Rattle.rss_lock.proofs.Granting.{given_agrees, without_agrees, set_mode-own}
+use Rattle.rss_lock.proofs.Granting.{given_agrees, given_same, without_agrees, set_mode-own}
 use mathlib.Core.Bool.{true≢false}
 
 cases : (b : Bool) → (b ≡ true) ⊎ (b ≡ false)
@@ -273,6 +273,30 @@ module _ (t : ℕ) (old : Table) (holders : List (Option Holder)) (firsts place 
         ∙ sym (if_false (u == t) (Some to) (mode_of old u need.item) apart)
   ]
 
+  -- t has the need already
+  module _ (modes : List (Option Mode)) (is_modes : modes ≡ modes_on holders before) (has : get_or modes place None ≡ Some (with_mode (get_or modes place None) need.mode)) where
+    has_so : mode_of old t need.item ≡ Some (with_mode (mode_of old t need.item) need.mode)
+    has_so = subst (λ (o : Option Mode). o ≡ Some (with_mode o need.mode)) (ap (λ (ms : List (Option Mode)). get_or ms place None) is_modes ∙ own_mode) has
+
+    pub covered_told : mode_of (table holders firsts old.entries old.room) ≡ given (mode_of old) t need
+    covered_told = at.same ∙ sym (given_same (mode_of old) t need has_so)
+
+    pub covered_table : IsTable (table holders firsts old.entries old.room)
+    covered_table = record {
+      places = at.places;
+      alone = at.alone;
+      begun = at.begun;
+      past = λ item g there.
+          let later : old.firsts ≤ firsts = at.later in
+          let was : g.as_of ≤ old.firsts = is.past item g there in
+          omega arith;
+      shown = λ u has. elim (at.seated u has) [
+        | inl own ↦ (need.item, ap is_some (ap (λ (m : Modes). m u need.item) at.same ∙ ap (λ (v : ℕ). mode_of old v need.item) own ∙ has_so))
+        | inr before ↦ let held = is.shown u before in (held.0, ap (λ (m : Modes). is_some (m u held.0)) at.same ∙ held.1)
+      ];
+      agreed = subst AllAgree (sym at.same) is.agreed;
+    }
+
   -- the item's grants, as the code makes them
   pub as_made : (modes : List (Option Mode)) (made : Mode) → modes ≡ modes_on holders before → made ≡ with_mode (get_or modes place None) need.mode → (entries : List (Item × Grants)) → ((q : Item) → grants_on entries q ≡ cond (same_item need.item q) (Some (record { modes = set modes place (Some made); as_of = firsts })) (grants_on old.entries q)) → (q : Item) → grants_on entries q ≡ cond (same_item need.item q) (Some new_grants) (grants_on old.entries q)
   as_made modes made is_modes is_made entries updates q =
@@ -382,3 +406,10 @@ room_for t u is few absent = elim (cases (list_any is_none t.holders)) [
       let too_many : length all ≤ length few.among = length-le_from_is_member nat_eq_equiv all few.among distinct within in
       absurd (let most : length few.among ≤ 32 = few.few in omega arith)
 ]
+
+-- ---- a table without places
+
+pub empty_table : (holders : List (Option Holder)) (entries : List (Item × Grants)) (room : ℕ) → holders ≡ replicate 32 None → entries ≡ [] → IsTable (table holders 0 entries room)
+empty_table holders entries room free none =
+    subst (λ (hs : List (Option Holder)). IsTable (table hs 0 entries room)) (sym free)
+    (subst (λ (es : List (Item × Grants)). IsTable (table (replicate 32 None) 0 es room)) (sym none) (search rules))

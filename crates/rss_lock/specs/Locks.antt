@@ -1,5 +1,5 @@
 -- A lock table, as its callers see it: the relation machine's locks.
-use Rattle.std.specs.Prelude.{◌≡◌, ℕ, ◌≤◌, Bool, List, length, take, slice_get, Some, None, Contains}
+use Rattle.std.specs.Prelude.{◌≡◌, ℕ, ◌≤◌, Bool, false, List, length, take, slice_get, Some, None, Contains}
 use Rattle.std.specs.List.{list_any}
 use Rattle.std.specs.Ordering.{nat_cmp, ordering_then}
 use Rattle.std.specs.declared.cmp.Ordering.{Ordering}
@@ -35,6 +35,10 @@ pub record AreFew (locks : Locks) (t : ℕ) : Type 0 where
   pub few : length among ≤ holders_most
   pub own : Contains among t
   pub holders : (u : ℕ) (item : Item) (mode : Mode) → held locks u item ≡ Some mode → Contains among u
+
+-- no other transaction holds anything
+abbrev pub HoldsAlone : Locks → ℕ → Type 0
+HoldsAlone locks t = (item : Item) → is_held_by_another locks t item ≡ false
 
 -- another transaction holds a lock on this identifier in one of the relations
 abbrev pub is_barred : Locks → ℕ → List Name → Tid → Bool

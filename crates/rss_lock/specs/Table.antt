@@ -195,6 +195,10 @@ pub record BarsTid (holders : List (Option Holder)) (t : ℕ) (relations : List 
 
 -- ---- the place of a transaction
 
+-- no transaction but t has a place
+abbrev pub AreAllOf : ℕ → List (Option Holder) → Type 0
+AreAllOf t holders = (u : ℕ) → list_any (is_of u) holders ≡ true → u ≡ t
+
 -- it has one, or a place is free
 abbrev pub HasRoomFor : ℕ → List (Option Holder) → Type 0
 HasRoomFor t holders = list_any (is_of t) holders ≡ false → list_any is_none holders ≡ true

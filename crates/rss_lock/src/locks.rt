@@ -1,19 +1,16 @@
 // The lock table.
 ghost use Rattle.std.specs.Prelude.{◌≡◌, ◌+◌, ◌^◌, ◌<◌, ◌≤◌, ◌↔◌, None, true, Contains, length};
-ghost use Rattle.std.specs.Prelude.{vec_len, IfSome, IfNone, OnOk};
+ghost use Rattle.std.specs.Prelude.{vec_len, IsTrue, IfSome, IfNone, OnOk};
 ghost use Rattle.std.specs.FinMap.{empty};
 ghost use Rattle.std.specs.List.Sorted.{IsStrictlySortedBy};
 ghost use Rattle.rss_base.specs.declared.tid.Tid.{Tid as TupleId};
 ghost use Rattle.rss_model.specs.Locks.{AreApart, first_bar, granted, least_holder, released};
-ghost use Rattle.rss_lock.specs.Locks.{AreFew, IsFirstBar, is_barred, tid_cmp};
+ghost use Rattle.rss_lock.specs.Locks.{AreFew, HoldsAlone, IsFirstBar, is_barred, tid_cmp};
 ghost use Rattle.rss_lock.specs.Table.{AllAgree, Disagrees, HoldersAreFew, IsLeastOf, IsUnbarred};
 ghost use Rattle.rss_lock.specs.Table.{given, mode_of, told};
 
-use crate::modes::with_mode;
-use crate::places::{
-    Grants, HOLDERS_MOST, Holder, barred_tid, current, is_held, least_disagreeing, modes_on,
-    place_for, place_of,
-};
+use crate::modes::{covers, with_mode};
+use crate::places::{Grants, Holders, barred_tid, current, is_held, least_disagreeing, modes_on};
 use rss_base::{Item, Mode, Name, Need, Tid};
 use std::alloc::{AllocError, Global};
 use std::collections::HashMap;
@@ -26,7 +23,7 @@ use std::marker::Model;
 /// whatever is held, and so does the look at an item, which is one look-up.
 #[derive(Drop)]
 pub struct Locks {
-    holders: [Option<Holder>; HOLDERS_MOST],
+    holders: Holders,
     /// How many first locks there have been.
     firsts: u64,
     items: HashMap<Item, Grants>,
@@ -38,9 +35,9 @@ impl Model for Locks {
 
     ghost Value = { Table };
 
-    ghost view = { λ l. table l.holders l.firsts l.items.entries (spare l.items) };
+    ghost view = { λ l. table l.holders.places l.firsts l.items.entries (spare l.items) };
 
-    ghost invariant = { λ l. IsTable (table l.holders l.firsts l.items.entries (spare l.items)) };
+    ghost invariant = { λ l. IsTable (table l.holders.places l.firsts l.items.entries (spare l.items)) };
 }
 
 impl Locks {
@@ -49,10 +46,17 @@ impl Locks {
         ensures { (told result).locks ≡ empty }
     {
         Locks {
-            holders: [None; HOLDERS_MOST],
+            holders: Holders::none(),
             firsts: 0,
             items: HashMap::new(alloc),
         }
+    }
+
+    /// Whether no other transaction holds anything.
+    pub fn is_alone(&self, transaction: u32) -> bool
+        ensures { IsTrue result ↔ HoldsAlone (told self.now).locks transaction }
+    {
+        self.holders.are_all_of(transaction)
     }
 
     /// The place of the first item that another transaction holds in a mode that disagrees, and the
@@ -64,6 +68,9 @@ impl Locks {
         ensures none { IfNone result
             (first_bar (told self.now).locks transaction needs.now ≡ None) }
     {
+        if self.is_alone(transaction) {
+            return None;
+        }
         for (place, need) in needs.iter().enumerate() {
             if let Some(holder) = self.least_barring(&need.item, need.mode, Some(transaction)) {
                 return Some((place as u32, holder));
@@ -102,7 +109,8 @@ impl Locks {
     }
 
     /// Locks the items in these modes, each joined with the mode in which the transaction holds the
-    /// item already. Takes no memory.
+    /// item already. Takes no memory. An item that it holds in the joined mode is looked up once, and
+    /// nothing is written.
     pub fn take(&mut self, transaction: u32, needs: Vec<Need>)
         requires free { first_bar (told self.old).locks transaction needs.items ≡ None }
         requires room { vec_len needs ≤ (told self.old).spare }
@@ -126,9 +134,13 @@ impl Locks {
         ensures room { (told self.old).spare ≤ (told self.new).spare + 1 }
         ensures agreed { AllAgree (mode_of self.new) }
     {
-        let place = place_for(&mut self.holders, &mut self.firsts, transaction);
+        let place = self.holders.place_for(&mut self.firsts, transaction);
         let mut modes = modes_on(&self.holders, self.items.get(&need.item));
-        modes[place] = Some(with_mode(modes[place], need.mode));
+        let held = modes[place];
+        if covers(held, need.mode) {
+            return;
+        }
+        modes[place] = Some(with_mode(held, need.mode));
         let grants = Grants {
             modes,
             as_of: self.firsts,
@@ -143,8 +155,8 @@ impl Locks {
         ensures released { (told self.new).locks ≡ released transaction (told self.old).locks }
         ensures kept { (told self.new).spare ≡ (told self.old).spare }
     {
-        if let Some(place) = place_of(&self.holders, transaction) {
-            self.holders[place] = None;
+        if let Some(place) = self.holders.place_of(transaction) {
+            self.holders.set(place, None);
         }
     }
 

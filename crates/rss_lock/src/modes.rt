@@ -1,5 +1,5 @@
 // Which modes agree, and which one two of them make together.
-ghost use Rattle.std.specs.Prelude.{◌≡◌};
+ghost use Rattle.std.specs.Prelude.{◌≡◌, ◌↔◌, Some, IsTrue};
 ghost use Rattle.rss_model.specs.Locks.{disagree, joined, with_mode};
 
 use rss_base::Mode;
@@ -37,5 +37,15 @@ pub(crate) fn with_mode(held: Option<Mode>, needed: Mode) -> Mode
     match held {
         Some(held) => joined(held, needed),
         None => needed,
+    }
+}
+
+/// Whether a transaction that holds this mode, if any, has the one that is needed with it.
+pub(crate) fn covers(held: Option<Mode>, needed: Mode) -> bool
+    ensures { IsTrue result ↔ (held ≡ Some (with_mode held needed)) }
+{
+    match held {
+        Some(held) => joined(held, needed) == held,
+        None => false,
     }
 }

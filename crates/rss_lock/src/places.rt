@@ -1,9 +1,10 @@
 // The places of transactions, and the modes that they have on an item.
-ghost use Rattle.std.specs.Prelude.{◌≡◌, ◌≢◌, ◌<◌, ◌↔◌, ℕ, Some, None, IfSome, IfNone, slice_index_or};
+ghost use Rattle.std.specs.Prelude.{◌≡◌, ◌≢◌, ◌<◌, ◌≤◌, ◌↔◌, ℕ, Some, None, IfSome, IfNone, slice_index_or};
 ghost use Rattle.std.specs.List.{list_any};
 ghost use Rattle.std.specs.Prelude.{◌+◌, ◌^◌, false, true, is_none, option_copied};
+ghost use Rattle.std.specs.Prelude.{IsTrue, replicate, slice_set};
 ghost use Rattle.rss_base.specs.declared.tid.Tid.{Tid as TupleId};
-ghost use Rattle.rss_lock.specs.Table.{BarsTid, DisagreesAt, DisagreesIn, HasRoomFor, IsLeastOf};
+ghost use Rattle.rss_lock.specs.Table.{AreAllOf, BarsTid, DisagreesAt, DisagreesIn, HasRoomFor, IsLeastOf};
 ghost use Rattle.rss_lock.specs.Table.{Places, current_modes, is_held, is_of, lesser, modes_on};
 
 use crate::modes::disagree;
@@ -20,6 +21,16 @@ pub(crate) struct Holder {
     pub(crate) since: u64,
 }
 
+/// The transactions that have locks, each in a place of its own.
+#[derive(Clone, Copy)]
+pub(crate) struct Holders {
+    pub(crate) places: [Option<Holder>; HOLDERS_MOST],
+    /// No place is in use from this one on.
+    end: usize,
+    ghost few: { end ≤ 32 },
+    ghost free: { (place : ℕ) → end ≤ place → slice_index_or places place None ≡ None },
+}
+
 /// Who holds an item: the mode of the transaction in each place. It counts where that transaction
 /// had its place when the item was last granted, and is a lock that was released where not.
 #[derive(Clone, Copy)]
@@ -32,52 +43,96 @@ pub(crate) struct Grants {
 /// How many bytes an item takes in the table, with its grants.
 const _: () = prove!(size_of::<Item>() + size_of::<Grants>() == 120);
 
-/// The place of a transaction.
-pub(crate) fn place_of(holders: &[Option<Holder>; HOLDERS_MOST], transaction: u32) -> Option<usize>
-    ensures some { IfSome result (λ place.
-        is_of transaction (slice_index_or holders.now place None) ≡ true) }
-    ensures within { IfSome result (λ place. place < 32) }
-    ensures none { IfNone result (list_any (is_of transaction) holders.now ≡ false) }
-{
-    for (place, holder) in holders.iter().enumerate() {
-        if let Some(holder) = holder
-            && holder.transaction == transaction
-        {
-            return Some(place);
+impl Holders {
+    /// No place is in use.
+    pub(crate) fn none() -> Self
+        ensures { result.places ≡ replicate 32 None }
+    {
+        Holders {
+            places: [None; HOLDERS_MOST],
+            end: 0,
         }
     }
-    None
-}
 
-/// The place of a transaction, which gets one where it has none.
-pub(crate) fn place_for(
-    holders: &mut [Option<Holder>; HOLDERS_MOST],
-    firsts: &mut u64,
-    transaction: u32,
-) -> usize
-    requires few { HasRoomFor transaction holders.old }
-    requires more { firsts.old + 1 < 2 ^ 64 }
-    ensures within { result < 32 }
-    ensures place { Places transaction holders.old firsts.old holders.new firsts.new result }
-{
-    if let Some(place) = place_of(holders, transaction) {
-        return place;
+    /// The place of a transaction.
+    pub(crate) fn place_of(&self, transaction: u32) -> Option<usize>
+        ensures some { IfSome result (λ place.
+            is_of transaction (slice_index_or self.now.places place None) ≡ true) }
+        ensures within { IfSome result (λ place. place < 32) }
+        ensures none { IfNone result (list_any (is_of transaction) self.now.places ≡ false) }
+    {
+        for place in 0..self.end {
+            if let Some(holder) = self.places[place]
+                && holder.transaction == transaction
+            {
+                return Some(place);
+            }
+        }
+        None
     }
-    let place = free_place(holders);
-    *firsts += 1;
-    holders[place] = Some(Holder {
-        transaction,
-        since: *firsts,
-    });
-    place
+
+    /// Whether each place that is in use is this transaction's.
+    pub(crate) fn are_all_of(&self, transaction: u32) -> bool
+        ensures { IsTrue result ↔ AreAllOf transaction self.now.places }
+    {
+        for place in 0..self.end {
+            if let Some(holder) = self.places[place]
+                && holder.transaction != transaction
+            {
+                return false;
+            }
+        }
+        true
+    }
+
+    /// The place of a transaction, which gets one where it has none.
+    pub(crate) fn place_for(&mut self, firsts: &mut u64, transaction: u32) -> usize
+        requires few { HasRoomFor transaction self.old.places }
+        requires more { firsts.old + 1 < 2 ^ 64 }
+        ensures within { result < 32 }
+        ensures place { Places transaction self.old.places firsts.old self.new.places firsts.new
+            result }
+    {
+        if let Some(place) = self.place_of(transaction) {
+            return place;
+        }
+        let place = free_place(&self.places);
+        *firsts += 1;
+        let holder = Holder {
+            transaction,
+            since: *firsts,
+        };
+        self.set(place, Some(holder));
+        place
+    }
+
+    /// Puts this at a place.
+    pub(crate) fn set(&mut self, place: usize, holder: Option<Holder>)
+        requires { place < 32 }
+        ensures { self.new.places ≡ slice_set self.old.places place holder }
+    {
+        self.places[place] = holder;
+        self.end = end_of(&self.places);
+    }
 }
 
-fn free_place(holders: &[Option<Holder>; HOLDERS_MOST]) -> usize
-    requires { list_any is_none holders.now ≡ true }
-    ensures within { result < 32 }
-    ensures free { slice_index_or holders.now result None ≡ None }
+/// The end of the places that are in use.
+fn end_of(places: &[Option<Holder>; HOLDERS_MOST]) -> usize
+    ensures few { result ≤ 32 }
+    ensures free { (place : ℕ) → result ≤ place → slice_index_or places.now place None ≡ None }
 {
-    for (place, holder) in holders.iter().enumerate() {
+    match places.iter().rposition(|holder| holder.is_some()) {
+        Some(place) => place + 1,
+        None => 0,
+    }
+}
+
+fn free_place(places: &[Option<Holder>; HOLDERS_MOST]) -> usize
+    requires { list_any is_none places.now ≡ true }
+    ensures within { result < 32 }
+    ensures free { slice_index_or places.now result None ≡ None }
+{
+    for (place, holder) in places.iter().enumerate() {
         if holder.is_none() {
             return place;
         }
@@ -86,15 +141,12 @@ fn free_place(holders: &[Option<Holder>; HOLDERS_MOST]) -> usize
 }
 
 /// The modes that count.
-pub(crate) fn current(
-    holders: &[Option<Holder>; HOLDERS_MOST],
-    grants: &Grants,
-) -> [Option<Mode>; HOLDERS_MOST]
-    ensures { result ≡ current_modes holders.now grants.now.as_of grants.now.modes }
+pub(crate) fn current(holders: &Holders, grants: &Grants) -> [Option<Mode>; HOLDERS_MOST]
+    ensures { result ≡ current_modes holders.now.places grants.now.as_of grants.now.modes }
 {
     let mut modes = [None; HOLDERS_MOST];
-    for place in 0..HOLDERS_MOST {
-        if let Some(holder) = holders[place]
+    for place in 0..holders.end {
+        if let Some(holder) = holders.places[place]
             && holder.since <= grants.as_of
         {
             modes[place] = grants.modes[place];
@@ -104,11 +156,8 @@ pub(crate) fn current(
 }
 
 /// The modes that count on an item of which nothing may be known.
-pub(crate) fn modes_on(
-    holders: &[Option<Holder>; HOLDERS_MOST],
-    grants: Option<&Grants>,
-) -> [Option<Mode>; HOLDERS_MOST]
-    ensures { result ≡ modes_on holders.now (option_copied grants.entry) }
+pub(crate) fn modes_on(holders: &Holders, grants: Option<&Grants>) -> [Option<Mode>; HOLDERS_MOST]
+    ensures { result ≡ modes_on holders.now.places (option_copied grants.entry) }
 {
     match grants {
         Some(grants) => current(holders, grants),
@@ -117,8 +166,8 @@ pub(crate) fn modes_on(
 }
 
 /// Whether a mode counts.
-pub(crate) fn is_held(holders: &[Option<Holder>; HOLDERS_MOST], grants: &Grants) -> bool
-    ensures { result ≡ is_held holders.now grants.now }
+pub(crate) fn is_held(holders: &Holders, grants: &Grants) -> bool
+    ensures { result ≡ is_held holders.now.places grants.now }
 {
     current(holders, grants).iter().any(|mode| mode.is_some())
 }
@@ -126,14 +175,14 @@ pub(crate) fn is_held(holders: &[Option<Holder>; HOLDERS_MOST], grants: &Grants)
 /// The identifier of an item, if it is a tuple of one of these relations that a transaction besides
 /// this one holds.
 pub(crate) fn barred_tid(
-    holders: &[Option<Holder>; HOLDERS_MOST],
+    holders: &Holders,
     transaction: u32,
     relations: &[Name],
     item: &Item,
     grants: &Grants,
 ) -> Option<Tid>
     ensures { (tid : TupleId) → result ≡ Some tid
-        ↔ BarsTid holders.now transaction relations.now item.now grants.now tid }
+        ↔ BarsTid holders.now.places transaction relations.now item.now grants.now tid }
 {
     let Item::Tuple(relation, tid) = item else {
         return None;
@@ -149,16 +198,16 @@ pub(crate) fn barred_tid(
 
 /// The least transaction besides this one whose mode disagrees.
 pub(crate) fn least_disagreeing(
-    holders: &[Option<Holder>; HOLDERS_MOST],
+    holders: &Holders,
     modes: &[Option<Mode>; HOLDERS_MOST],
     mode: Mode,
     besides: Option<u32>,
 ) -> Option<u32>
-    ensures { IsLeastOf (DisagreesIn holders.now modes.now mode besides 32) result }
+    ensures { IsLeastOf (DisagreesIn holders.now.places modes.now mode besides 32) result }
 {
     let mut least = None;
-    for place in 0..HOLDERS_MOST {
-        if let Some(transaction) = disagreeing(holders[place], modes[place], mode, besides) {
+    for place in 0..holders.end {
+        if let Some(transaction) = disagreeing(holders.places[place], modes[place], mode, besides) {
             least = Some(lesser(least, transaction));
         }
     }

@@ -10,5 +10,5 @@ pub returns-in_err-least_disagreeing : goal.returns-in_err-least_disagreeing
 returns-in_err-least_disagreeing c = λ tid. (
   λ found. absurd (let none = c.from_residual.ensures in cc),
   λ bars. absurd (c.in_err-least_disagreeing.ensures bars.other
-      (subst (λ (modes : List (Option Mode)). DisagreesIn c.args.holders.now modes X (Some c.args.transaction) 32 bars.other) (sym c.current-modes.ensures) bars.bars)),
+      (subst (λ (modes : List (Option Mode)). DisagreesIn c.args.holders.now.places modes X (Some c.args.transaction) 32 bars.other) (sym c.current-modes.ensures) bars.bars)),
 )

@@ -4,4 +4,4 @@ use Rattle.rss_lock.proofs.places.free_place.Goals as goal
 use mathlib.Core.Bool.{true≢false}
 
 pub unreachable-requires : goal.unreachable-requires
-unreachable-requires c = true≢false (sym c.requires ∙ all_full c.args.holders.now (λ k below. c.loop-place.invariant k (omega arith)))
+unreachable-requires c = true≢false (sym c.requires ∙ all_full c.args.places.now (λ k below. c.loop-place.invariant k (omega arith)))

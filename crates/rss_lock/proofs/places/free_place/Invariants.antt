@@ -3,4 +3,4 @@ use Rattle.std.specs.Prelude.{is_none}
 use Rattle.rss_lock.proofs.places.free_place.Given as goal
 
 abbrev pub invariant-loop-place : goal.invariant-loop-place
-invariant-loop-place l = (k : ℕ) → k < l.place → is_none (get_or l.holders k None) ≡ false
+invariant-loop-place l = (k : ℕ) → k < l.place → is_none (get_or l.places k None) ≡ false

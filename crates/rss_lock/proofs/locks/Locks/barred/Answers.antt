@@ -16,22 +16,22 @@ use Rattle.rss_lock.proofs.locks.Locks.barred.Goals as goal
 pub loop-item-preserved-in-Continue-1 : goal.loop-item-preserved-in-Continue-1
 loop-item-preserved-in-Continue-1 c =
     let tells = c.in-Some-barred_tid.ensures in
-    subst (Gathers c.self.inside.holders c.args.transaction c.args.relations.now c.self.inside.items.entries c.next.new.self) (sym c.in_ok-push.ensures.items)
-    (gathers_one c.self.inside.holders c.args.transaction c.args.relations.now c.self.inside.items.entries c.loop-item.item-iterator c.loop-item.into.items (c.in-Some.item.now, c.in-Some.grants.now) c.next.new.self c.in-Some-barred_tid.tid c.in-Some.ensures.steps ((tells c.in-Some-barred_tid.tid).0 refl)
+    subst (Gathers c.self.inside.holders.places c.args.transaction c.args.relations.now c.self.inside.items.entries c.next.new.self) (sym c.in_ok-push.ensures.items)
+    (gathers_one c.self.inside.holders.places c.args.transaction c.args.relations.now c.self.inside.items.entries c.loop-item.item-iterator c.loop-item.into.items (c.in-Some.item.now, c.in-Some.grants.now) c.next.new.self c.in-Some-barred_tid.tid c.in-Some.ensures.steps ((tells c.in-Some-barred_tid.tid).0 refl)
     (λ tid bars. let same : Some c.in-Some-barred_tid.tid ≡ Some tid = (tells tid).1 bars in cc) c.loop-item.invariant)
 
 pub loop-item-preserved : goal.loop-item-preserved
 loop-item-preserved c =
     let tells = c.in_default.ensures in
-    gathers_skip c.self.inside.holders c.args.transaction c.args.relations.now c.self.inside.items.entries c.loop-item.item-iterator c.loop-item.into.items (c.in-Some.item.now, c.in-Some.grants.now) c.next.new.self c.in-Some.ensures.steps
+    gathers_skip c.self.inside.holders.places c.args.transaction c.args.relations.now c.self.inside.items.entries c.loop-item.item-iterator c.loop-item.into.items (c.in-Some.item.now, c.in-Some.grants.now) c.next.new.self c.in-Some.ensures.steps
     (λ tid bars. let same : None ≡ Some tid = (tells tid).1 bars in cc) c.loop-item.invariant
 
 pub returns-clause-exact : goal.returns-clause-exact
 returns-clause-exact c = λ tid.
     let entries : List Entry = c.self.inside.items.entries in
     let one : c.dedup.new.self.items ≡ dedup same_tid c.sort_unstable.new.self.items = dedup_is same_tid c.sort_unstable.new.self.items c.dedup.new.self.items c.dedup.ensures.filtered in
-    let gathered : Gathers c.self.inside.holders c.args.transaction c.args.relations.now entries [] c.loop-item.into.items = subst (λ (rest : List Entry). Gathers c.self.inside.holders c.args.transaction c.args.relations.now entries rest c.loop-item.into.items) c.in-None.ensures.steps.0 c.loop-item.invariant in
-    let listed = barred_iff (table c.self.inside.holders c.self.inside.firsts entries (spare c.self.inside.items)) c.self.invariant c.args.transaction c.args.relations.now c.iter-item-items.ensures.found c.loop-item.into.items gathered tid in
+    let gathered : Gathers c.self.inside.holders.places c.args.transaction c.args.relations.now entries [] c.loop-item.into.items = subst (λ (rest : List Entry). Gathers c.self.inside.holders.places c.args.transaction c.args.relations.now entries rest c.loop-item.into.items) c.in-None.ensures.steps.0 c.loop-item.invariant in
+    let listed = barred_iff (table c.self.inside.holders.places c.self.inside.firsts entries (spare c.self.inside.items)) c.self.invariant c.args.transaction c.args.relations.now c.iter-item-items.ensures.found c.loop-item.into.items gathered tid in
     let sorted = sorted_iff c.loop-item.into.items c.sort_unstable.new.self.items c.sort_unstable.ensures.permutation tid in
     let told : Contains (dedup same_tid c.sort_unstable.new.self.items) tid ↔ IsBarred (mode_of c.args.self.now) c.args.transaction c.args.relations.now tid =
     subst (λ (t : Table). Contains (dedup same_tid c.sort_unstable.new.self.items) tid ↔ IsBarred (mode_of t) c.args.transaction c.args.relations.now tid) c.self.view_is

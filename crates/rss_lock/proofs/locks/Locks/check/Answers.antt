@@ -7,7 +7,12 @@ use Rattle.rss_lock.specs.Table.{IsUnbarred, mode_of, locks_of}
 use Rattle.rss_lock.proofs.Barring.{least_bars, disagrees_if}
 use Rattle.rss_lock.proofs.Machine.{tells}
 use Rattle.rss_lock.proofs.Firsts.{first_barred, first_none}
+use Rattle.rss_lock.proofs.Single.{unbarred_if}
 use Rattle.rss_lock.proofs.locks.Locks.check.Goals as goal
+
+pub returns-then-is_alone-clause-none : goal.returns-then-is_alone-clause-none
+returns-then-is_alone-clause-none c = first_none (locks_of c.args.self.now) (mode_of c.args.self.now) (tells c.args.self.now) c.args.transaction c.args.needs.now
+    (λ k need below there. unbarred_if c.args.self.now c.args.transaction (c.is_alone.ensures.0 c.if-is_alone.true) need)
 
 pub loop-place-init : goal.loop-place-init
 loop-place-init c = λ k need below. absurd (omega arith)

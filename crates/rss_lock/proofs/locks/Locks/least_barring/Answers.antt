@@ -7,6 +7,6 @@ use Rattle.rss_lock.proofs.locks.Locks.least_barring.Goals as goal
 
 pub returns : goal.returns
 returns c =
-    let found = subst (λ (modes : List (Option Mode)). IsLeastOf (DisagreesIn c.self.inside.holders modes c.args.mode c.args.besides 32) c.least_disagreeing.result) c.current-modes.ensures c.least_disagreeing.ensures in
+    let found = subst (λ (modes : List (Option Mode)). IsLeastOf (DisagreesIn c.self.inside.holders.places modes c.args.mode c.args.besides 32) c.least_disagreeing.result) c.current-modes.ensures c.least_disagreeing.ensures in
     subst (λ (t : Table). IsLeastOf (Disagrees (mode_of t) c.args.item.now c.args.mode c.args.besides) c.least_disagreeing.result) c.self.view_is
     (least_told _ c.self.invariant c.args.item.now c.in_ok-grants.grants.now (sym c.in_ok-grants.ensures.value) c.args.mode c.args.besides c.least_disagreeing.result found)
