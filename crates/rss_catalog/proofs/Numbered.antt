@@ -1,9 +1,9 @@
 -- What has which number.
-use Rattle.std.proofs.Common.{◌≡◌, ◌⊎◌, ℕ, ◌+◌, ◌-◌, ◌<◌, ◌≤◌, suc, zero, true, false, List, length, replicate, Option, Some, None, refl, sym, ◌∙◌, ap, inl, inr, arith, get_or}
+use Rattle.std.proofs.Common.{◌≡◌, ◌⊎◌, ℕ, ◌+◌, ◌-◌, ◌<◌, ◌≤◌, suc, zero, true, false, List, length, take, replicate, Option, Some, None, refl, sym, ◌∙◌, ap, inl, inr, arith, get_or}
 use Rattle.std.specs.Prelude.{is_some, map, option_map, option_and_then, slice_get, ◌==◌}
 use Rattle.std.proofs.lemmas.Bool.{cases_eq, cases_lt, cond-false, ne_eqb}
 use Rattle.std.proofs.lemmas.Option.{none-some, slice_get-get_or, slice_get_past, slice_get-map}
-use Rattle.std.proofs.lemmas.List.{length-set, length-replicate, get_or_default, get_or-replicate, get_or-set_same, get_or-set_other}
+use Rattle.std.proofs.lemmas.List.{length-set, length-replicate, length-take-le, get_or-take, get_or_default, get_or-replicate, get_or-set_same, get_or-set_other}
 use Rattle.rss_base.specs.Listings.{numbered, with_number}
 
 -- the item of a place, as a number looks it up
@@ -35,6 +35,19 @@ has_number items k d item low is = numbered_at items (k + 1) (omega arith) (omeg
 -- and what a number has, its place has
 pub place_has : {A : Type 0} (items : List (Option A)) (number : ℕ) (item : A) → numbered items number ≡ Some item → get_or items (number - 1) None ≡ Some item
 place_has items number item is = let within = numbered_within items number item is in sym (numbered_at items number within.0 within.1) ∙ is
+
+-- the first places have what has their numbers, where no later number has anything
+pub numbered_take : {A : Type 0} (items : List (Option A)) (count number : ℕ) → count ≤ length items → ((k : ℕ) → count < k → numbered items k ≡ None) → numbered (take count items) number ≡ numbered items number
+numbered_take items count zero few none = refl
+numbered_take items count (suc k) few none =
+    let long = length-take-le count items few in
+    elim (cases_lt count (suc k)) [
+      | inl past ↦ numbered_past (take count items) (suc k) (omega arith) ∙ sym (none (suc k) past)
+      | inr within ↦
+          numbered_at (take count items) (suc k) (omega arith) (omega arith)
+          ∙ get_or-take count items (suc k - 1) None (omega arith)
+          ∙ sym (numbered_at items (suc k) (omega arith) (omega arith))
+    ]
 
 -- what a number has that was given this, and what the others have
 pub with_same : {A : Type 0} (items : List (Option A)) (number : ℕ) (item : Option A) → 1 ≤ number → number ≤ length items → numbered (with_number items number item) number ≡ item

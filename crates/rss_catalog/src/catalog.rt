@@ -321,7 +321,7 @@ impl Catalog {
     pub fn has_image_of(&self, relation: u8) -> bool
         ensures { IsTrue result ↔ HasImageOf self.now.listing relation }
     {
-        has_entry_of(&self.images, relation)
+        has_entry_of(&self.images[..usize::from(self.last_image)], relation)
     }
 
     /// Whether a relation has a part in a link.

@@ -48,21 +48,28 @@ none_of (Some bytes) is = cc
 pub unmapped_none : (view : PagesView) → ((key : PageKey) → is_some (view.held key) ≡ view.mapped key) → (key : PageKey) → view.mapped key ≡ false → view.held key ≡ None
 unmapped_none view law key free = none_of (view.held key) (law key ∙ free)
 
+-- a page that was brought into memory, by the bytes that are lent
+pub lent_page : {asks outs : ℕ} (of : Nodes) (number : ℕ) (key : PageKey) (page : List ℕ) (old new : PagesView) → PagesStep no_page asks outs old new → key ≡ page_key of.segment Image number → (IsTold new.disk → new.held key ≡ Some page) → IsTold old.disk → cells_of of old.held number ≡ Some page
+lent_page of number key page old new step at there told = sym (ap (λ (h : Held). cells_of of h number) (all_held step told)) ∙ sym (ap new.held at) ∙ there (step.passes.leaves.told.0 told)
+
 -- the node that was read
-pub read_holds : (of : Nodes) (level number : ℕ) (held : Held) (key : PageKey) (page : List ℕ) (node : NodeView) → key ≡ page_key of.segment Image number → held key ≡ Some page → Spells page node → IsNodeOf of level number node → HoldsNode of held level number node.next node.entries
-read_holds of level number held key page node at there spelled is = record {
+pub read_holds : (of : Nodes) (level number : ℕ) (held : Held) (page : List ℕ) (node : NodeView) → cells_of of held number ≡ Some page → Spells page node → IsNodeOf of level number node → HoldsNode of held level number node.next node.entries
+read_holds of level number held page node there spelled is = record {
   bytes = page;
-  held = sym (ap held at) ∙ there;
+  held = there;
   spells = subst (λ (n : NodeView). Spells page n) (node_is of level number node is) spelled;
 }
 
--- the page holds a node, and so its bytes spell one
-pub never_ill : (of : Nodes) (level number : ℕ) (held : Held) (key : PageKey) (page : List ℕ) → key ≡ page_key of.segment Image number → held key ≡ Some page → HasNode of held level number → ((node : NodeView) → IsNodeOf of level number node → Spells page node → ⊥) → ⊥
-never_ill of level number held key page at there has none =
-    let same : Some has.holds.bytes ≡ Some page = sym has.holds.held ∙ sym (ap held at) ∙ there in
-    let bytes : has.holds.bytes ≡ page = cc in
-    let node : NodeView = node_of of level number has.next has.entries in
-    none node (is_node_of of level number has.next has.entries) (subst (λ (l : List ℕ). Spells l node) bytes has.holds.spells)
+-- the bytes of a page that holds a node spell it
+pub page_spells : (of : Nodes) (level number next : ℕ) (entries : List Entry) (held : Held) (page : List ℕ) → cells_of of held number ≡ Some page → HoldsNode of held level number next entries → Spells page (node_of of level number next entries)
+page_spells of level number next entries held page there holds =
+    let same : Some holds.bytes ≡ Some page = sym holds.held ∙ there in
+    let bytes : holds.bytes ≡ page = cc in
+    subst (λ (l : List ℕ). Spells l (node_of of level number next entries)) bytes holds.spells
+
+-- and so they spell one
+pub never_ill : (of : Nodes) (level number : ℕ) (held : Held) (page : List ℕ) → cells_of of held number ≡ Some page → HasNode of held level number → ((node : NodeView) → IsNodeOf of level number node → Spells page node → ⊥) → ⊥
+never_ill of level number held page there has none = none (node_of of level number has.next has.entries) (is_node_of of level number has.next has.entries) (page_spells of level number has.next has.entries held page there has.holds)
 
 key_number : (a b : PageKey) → a ≡ b → a.number ≡ b.number
 key_number a b is = ap (λ (k : PageKey). k.number) is

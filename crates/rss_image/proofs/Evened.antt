@@ -1,7 +1,7 @@
 -- Two neighbours that are evened out, by what the calls say.
 use Rattle.std.proofs.Common.{◌≡◌, ◌≢◌, inl, inr, ⊎_elim, ◌<◌, ◌≤◌, ◌+◌, ◌-◌, ◌/◌, ℕ, suc, zero, List, [], ◌∷◌, ◌++◌, length, take, drop, true, refl, sym, ◌∙◌, ap, subst, arith, Some}
 use Rattle.std.specs.Prelude.{is_some}
-use Rattle.std.proofs.lemmas.List.{append-nil, take_all, drop_all, length-append, length-drop}
+use Rattle.std.proofs.lemmas.List.{append-nil, take_all, drop_all, drop-append-le, length-append, length-drop}
 use Rattle.rss_base.specs.DiskRule.{IsTold}
 use Rattle.rss_base.specs.Paged.{Held, page_key}
 use Rattle.rss_base.specs.Steps.{PagesView, PagesStep, no_page}
@@ -64,6 +64,15 @@ module _ (ls rs : List Entry) (count more : ℕ) (left : count ≡ length ls) (r
       ∙ ap (λ (n : ℕ). drop ((count + more) / 2 - n) rs) left
       ∙ sym (drop_past ls rs ((count + more) / 2) (omega (arith, left, fewer)))
       ∙ ap (λ (n : ℕ). drop n (ls ++ rs)) (sym half_is)
+
+-- the second of two nodes, before which entries of the first are put
+pub share_back : (ls rs : List Entry) (count more : ℕ) → count ≡ length ls → more ≡ length rs → (count + more) / 2 ≤ count → spliced rs 0 0 (take (count - (count + more) / 2) (drop ((count + more) / 2) ls)) ≡ drop (length (ls ++ rs) / 2) (ls ++ rs)
+share_back ls rs count more left right back =
+    let half : ℕ = (count + more) / 2 in
+    let half_is : half ≡ length (ls ++ rs) / 2 = omega (arith, length-append ls rs, left, right) in
+    ap (λ (l : List Entry). l ++ rs) (take_all (count - half) (drop half ls) (omega (arith, length-drop half ls, left)))
+    ∙ sym (drop-append-le half ls rs (omega (arith, left, back)))
+    ∙ ap (λ (n : ℕ). drop n (ls ++ rs)) half_is
 
 pub named_long : (level : ℕ) (pair : List ℕ) (es : List Entry) → length (first_named level pair es) ≡ length es
 named_long zero pair es = refl

@@ -11,9 +11,7 @@ use Rattle.rss_levels.proofs.Lists.{each_two}
 use Rattle.rss_levels.proofs.Order.{less_or_same, not_not_less, zeros_least}
 use Rattle.rss_levels.proofs.Inserting.{leaf_inserts, has_full}
 use Rattle.std.proofs.lemmas.List.{length-map}
-use Rattle.rss_base.specs.Paged.{Held, page_key}
-use Rattle.rss_base.specs.declared.key.PageKey.{PageKey}
-use Rattle.rss_base.specs.declared.key.Space.TheVariants.{Image}
+use Rattle.rss_base.specs.Paged.{Held}
 use Rattle.rss_image.specs.Trees.{cells_of}
 use Rattle.rss_image.specs.Inserted.{MayInsert}
 use Rattle.rss_levels.proofs.Inner.{has_at, child_at, here_still, inner_done, room_below, all_full}
@@ -36,12 +34,12 @@ same_node of cells level number next other_next es others one two =
     let bytes : one.bytes ≡ two.bytes = cc in
     says_one two.bytes (node_of of level number next es) (node_of of level number other_next others) (subst (λ (l : List ℕ). spells of l level number next es) bytes one.spells) two.spells refl
 
--- a page that was read as a node holds it alone
-pub node_read : (of : Nodes) (level number : ℕ) (held : Held) (key : PageKey) (page : List ℕ) (node : NodeView) → key ≡ page_key of.segment Image number → held key ≡ Some page → IsNodeOf of level number node → Spells page node
+-- a page that was read as a node holds no other one
+pub node_read : (of : Nodes) (level number : ℕ) (held : Held) (page : List ℕ) (node : NodeView) → cells_of of held number ≡ Some page → IsNodeOf of level number node → Spells page node
     → (next : ℕ) (entries : List Entry) → HoldsAt (spells of) (cells_of of held) level number next entries → node ≡ node_of of level number next entries
-node_read of level number held key page node at there is spelled next entries holds =
+node_read of level number held page node there is spelled next entries holds =
     node_is of level number node is
-    ∙ same_node of (cells_of of held) level number node.next next node.entries entries (read_holds of level number held key page node at there spelled is) holds
+    ∙ same_node of (cells_of of held) level number node.next next node.entries entries (read_holds of level number held page node there spelled is) holds
 
 -- what stands in the place of a node into which an entry was put
 pub record GrownAs (of : Nodes) (old new : Cells) (level : ℕ) (here : Part) (next : ℕ) (entries : List Entry) (split : Option Split) : Type 0 where

@@ -23,6 +23,7 @@ pub mod Sighted
 pub mod Ordered
 pub mod Alike
 pub mod Walked
+pub mod Fits
 pub mod Once
 pub mod Laid
 pub mod Standing

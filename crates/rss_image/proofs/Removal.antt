@@ -17,11 +17,11 @@ use Rattle.rss_levels.proofs.Inserting.{stack_is, each_at}
 use Rattle.rss_levels.proofs.Pages.{not_in}
 use Rattle.rss_levels.proofs.Removing.{leaf_lacks, leaf_removes, lowered, filled_lowered, inner_removes}
 use Rattle.rss_levels.proofs.Inner.{IsCons, cons, before_at, at_entry, behind_at, has_at, height, from_at, next_at}
-use Rattle.rss_levels.proofs.Spotted.{at_place, each_take, first_drop, split_place, spot_holds, spot_few}
+use Rattle.rss_levels.proofs.Spotted.{at_place, each_take, first_drop, split_place, spot_few}
 use Rattle.rss_node.specs.Nodes.{NodeView, IsPassed, spliced}
 use Rattle.rss_node.specs.declared.pair.Nodes.{Nodes}
 use Rattle.rss_base.specs.Paged.{Held}
-use Rattle.rss_image.specs.Trees.{cells_of, spells, HasNode}
+use Rattle.rss_image.specs.Trees.{cells_of, spells}
 use Rattle.rss_image.specs.Removed.{MayRemove, MayMend, Mended}
 use Rattle.rss_image.proofs.Passing.{no_rows, leaf_rises}
 use Rattle.rss_image.proofs.Evened.{long_take}
@@ -201,13 +201,6 @@ module _ (of : Nodes) (old : Cells) (level number : ℕ) (pair : List ℕ) (pair
       subst (λ (n : ℕ). Removes spot new n) m.count_is (inner_cut m.mid new m.now m.filled m.begins m.lacks m.few m.held m.keeps m.loses_none)
 
 -- ---- what a call may rely on
-
-pub removal_node : (of : Nodes) (held : Held) (level number : ℕ) (pair : List ℕ) → MayRemove of held level number pair → HasNode of held level number
-removal_node of held level number pair may = record {
-  next = link level [] (first may.spot.after no_page);
-  entries = stored of.width level may.spot.here.items;
-  holds = spot_holds (spells of) (cells_of of held) of.width level number pair may.pairs may.spot;
-}
 
 pub may_below : (of : Nodes) (held : Held) (level number : ℕ) (pair : List ℕ) (may : MayRemove of held level number pair) (node : NodeView) (holds : HoldsAt (spells of) (cells_of of held) level number node.next node.entries)
     (at : ℕ) (inner : 0 < level) (some : 0 < at) (low : at ≤ length node.entries) (passed : IsPassed true (at_place node.entries (at - 1)).pair pair) (above : at < length node.entries → IsPassed true (at_place node.entries at).pair pair → ⊥) → 2 ≤ node_least of.width

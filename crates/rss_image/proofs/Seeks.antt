@@ -11,8 +11,14 @@ use Rattle.rss_levels.proofs.Seeking.{found_here, found_none, found_next}
 use Rattle.rss_levels.proofs.Spotted.{at_place, each_take, split_place}
 use Rattle.rss_node.specs.Nodes.{NodeView, IsPassed}
 use Rattle.rss_node.specs.declared.pair.Nodes.{Nodes}
-use Rattle.rss_image.specs.Trees.{spells}
+use Rattle.rss_base.specs.Paged.{Held}
+use Rattle.rss_node.specs.Nodes.{entry_at}
+use Rattle.rss_image.specs.Trees.{cells_of, node_of, spells, HoldsNode}
+use Rattle.rss_image.specs.Seeking.{MaySeek, HasEntries, HasPage, LooksIn}
+use Rattle.rss_image.specs.declared.seeking.InLeaf.TheVariants.{Here, Next}
+use Rattle.rss_image.proofs.Calls.{read_holds}
 use Rattle.rss_image.proofs.Insertion.{same_node, entries_are, next_is}
+use Rattle.rss_image.proofs.Passing.{leaf_passed}
 
 passed_same : (beyond : Bool) (p t : List ℕ) → IsPassed beyond p t → IsPassedBy beyond p t
 passed_same true p t is = is
@@ -81,3 +87,55 @@ module _ (of : Nodes) (old : Cells) (number : ℕ) (pair : List ℕ) (pairs : Li
       let less : IsLess pair next.q.low = (subst (Each (λ q. IsLess pair q.low)) next.is spot.high).0 in
       let split = split_place right.entries 0 some in
       sym (found_next beyond pair pairs spot.before spot.here spot.after stack.1.pairs_are stack.1.rises spot.low (all_passed beyond passed) next.q next.rest (at_place right.entries 0) (drop 1 right.entries) next.is (sym (right_is right there next) ∙ split) less)
+
+-- ---- by what a search finds in the page of the leaf
+
+module _ (of : Nodes) (held : Held) (number : ℕ) (pair : List ℕ) (beyond : Bool) (pairs : List (List ℕ)) (may : MaySeek of held 0 number pair pairs) where
+  abbrev cells : Cells
+  cells = cells_of of held
+
+  pub looked_here : (found : List ℕ) → HasPage of held number (λ page. LooksIn of number page pair beyond (Here found)) → Some found ≡ first_from beyond pair pairs
+  looked_here found has =
+      let looks = has.such in
+      let node = looks.node in
+      let holds = read_holds of 0 number held has.page node has.held_is looks.spelled looks.is in
+      ap (λ (p : List ℕ). Some p) looks.found_is.1
+      ∙ seeks_here of cells number pair pairs may.spot node holds beyond looks.at looks.found_is.0 (leaf_passed of cells 0 number pair pairs may.spot node holds refl beyond looks.at looks.within looks.before) (looks.here looks.found_is.0)
+
+  module _ (next : ℕ) (has : HasPage of held number (λ page. LooksIn of number page pair beyond (Next next))) where
+    abbrev node : NodeView
+    node = has.such.node
+
+    holds : HoldsNode of held 0 number node.next node.entries
+    holds = read_holds of 0 number held has.page node has.held_is has.such.spelled has.such.is
+
+    next_is_its : next ≡ node.next
+    next_is_its = has.such.found_is.1
+
+    passed : (k : ℕ) → k < length node.entries → IsPassed beyond (at_place node.entries k).pair pair
+    passed k low =
+        let looks = has.such in
+        let end : length node.entries ≤ looks.at = looks.found_is.0 in
+        leaf_passed of cells 0 number pair pairs may.spot node holds refl beyond looks.at looks.within looks.before k (omega (arith, low, end))
+
+    pub looked_none : (slots : ℕ) → slots ≤ next → ((n : ℕ) (bytes : List ℕ) → cells n ≡ Some bytes → n < slots) → None ≡ first_from beyond pair pairs
+    looked_none slots high within = seeks_none of cells number pair pairs may.spot node holds beyond slots passed (omega (arith, high, next_is_its)) within
+
+    module _ (slots : ℕ) (few : slots < 4294967296) (low : next < slots) where
+      there : NextLeaf of cells may.spot.after node.next
+      there = next_leaf of cells number pair pairs may.spot node holds slots few (omega (arith, low, next_is_its))
+
+      abbrev right : NodeView
+      right = node_of of 0 node.next (link 0 there.rest no_page) there.q.items
+
+      some : 0 < length right.entries
+      some = right_some of cells number pair pairs may.spot node holds right there.holds there may.filled
+
+      right_holds : HoldsNode of held 0 next right.next right.entries
+      right_holds = subst (λ (n : ℕ). HoldsNode of held 0 n right.next right.entries) (sym next_is_its) there.holds
+
+      pub next_looked : HasEntries of held next
+      next_looked = record { next = right.next; entries = right.entries; holds = right_holds; some = some }
+
+      pub looked_next : (found : List ℕ) → ((end : ℕ) (entries : List Entry) → HoldsNode of held 0 next end entries → found ≡ (entry_at entries 0).pair) → Some found ≡ first_from beyond pair pairs
+      looked_next found is = ap (λ (p : List ℕ). Some p) (is right.next right.entries right_holds) ∙ seeks_next of cells number pair pairs may.spot node holds beyond passed right there.holds there some

@@ -1,5 +1,5 @@
 -- An image is checked.
-use Rattle.std.specs.Prelude.{◌≡◌, ℕ, ◌+◌, ◌≤◌, if◌then◌else◌, List, [], ◌∷◌, ◌++◌, length, map, Option, Some, None}
+use Rattle.std.specs.Prelude.{◌≡◌, ℕ, ◌+◌, ◌<◌, ◌≤◌, if◌then◌else◌, List, [], ◌∷◌, ◌++◌, length, map, Option, Some, None}
 use Rattle.std.specs.Ordering.{nat_cmp, is_eq}
 use Rattle.std.specs.Cmp.Lexicographic.{slice_cmp}
 use Rattle.rss_base.specs.Paged.{Held}
@@ -10,13 +10,15 @@ use Rattle.rss_levels.specs.Entries.{Pairwise}
 use Rattle.rss_levels.specs.Rows.{Part, Row, HoldsAt, IsBefore, first, items, marks}
 use Rattle.rss_levels.specs.Nested.{IsUnder}
 use Rattle.rss_levels.specs.Spots.{AreMade}
+use Rattle.rss_node.specs.Nodes.{NodeView, IsNodeOf, Spells, entry_at}
 use Rattle.rss_node.specs.Pairs.{key_from, tid_from}
 use Rattle.rss_node.specs.declared.pair.Nodes.{Nodes}
-use Rattle.rss_image.specs.Trees.{cells_of}
+use Rattle.rss_image.specs.Trees.{cells_of, HoldsNode}
 use Rattle.rss_image.specs.Images.{ImageTree, has_page, pages_of}
-use Rattle.rss_image.specs.Fitting.{IsFine}
+use Rattle.rss_image.specs.Fitting.{IsFit, IsFine}
 use Rattle.rss_image.specs.declared.image.Image.{Image}
 use Rattle.rss_image.specs.declared.checking.Census.{Census}
+use Rattle.rss_image.specs.declared.checking.Child.{Child}
 use Rattle.rss_image.specs.declared.checking.Seen.{Seen}
 
 -- ---- what a check answers
@@ -138,3 +140,57 @@ SeesUnder of view level number low fewest before after = (row : Row) → IsSeen 
 abbrev pub NeverStands : Nodes → PagesView → ℕ → ℕ → List ℕ → ℕ → Seen → Type 0
 NeverStands of view level number low fewest before = (row : Row) → IsSeen of.width row before.pages before
     → (stands : StandsBefore of view.slots view.held level number low fewest row) → before.pages + length stands.ns ≤ view.slots → ⊥
+
+-- ---- what the bytes of a page say
+
+-- they spell no node of a level that fits, with at least so many entries
+abbrev pub NeverFits : Nodes → ℕ → ℕ → ℕ → ℕ → List ℕ → Type 0
+NeverFits of slots level number fewest page = (node : NodeView) → IsNodeOf of level number node → Spells page node
+    → IsFit node.width slots level node.next node.entries → fewest ≤ length node.entries → ⊥
+
+-- they spell such a node, which has so many entries
+pub record FitsIn (of : Nodes) (slots level number fewest : ℕ) (page : List ℕ) (count : ℕ) : Type 0 where
+  pub node : NodeView
+  pub spelled : Spells page node
+  pub is : IsNodeOf of level number node
+  pub fit : IsFit node.width slots level node.next node.entries
+  pub filled : fewest ≤ length node.entries
+  pub count_is : count ≡ length node.entries
+
+-- the page of this number holds such a node
+pub record HoldsFit (of : Nodes) (view : PagesView) (level number fewest count : ℕ) : Type 0 where
+  pub next : ℕ
+  pub entries : List Entry
+  pub holds : HoldsAt (IsFine of view.slots) (cells_of of view.held) level number next entries
+  pub filled : fewest ≤ length entries
+  pub count_is : count ≡ length entries
+
+-- If the page of this number has these bytes: the leaf that they spell has been seen too.
+abbrev pub SeesIn : Nodes → ℕ → ℕ → List ℕ → ℕ → List ℕ → Seen → Seen → Type 0
+SeesIn of slots number low fewest page before after = (held : Held) → cells_of of held number ≡ Some page
+    → (row : Row) → IsSeen of.width row before.pages before → Pairwise IsBefore (marks row)
+    → IsSeenUnder of slots held 0 number low fewest row before.pages after
+
+-- And if they don't fit, no leaf stands there.
+abbrev pub NeverIn : Nodes → ℕ → ℕ → List ℕ → ℕ → List ℕ → Seen → Type 0
+NeverIn of slots number low fewest page before = (held : Held) → cells_of of held number ≡ Some page
+    → (row : Row) → IsSeen of.width row before.pages before
+    → (stands : StandsBefore of slots held 0 number low fewest row) → before.pages + length stands.ns ≤ slots → ⊥
+
+-- ---- a child
+
+-- the page of this number holds a node of a level with an entry at a place
+pub record HasEntryAt (of : Nodes) (held : Held) (level number at : ℕ) : Type 0 where
+  pub next : ℕ
+  pub entries : List Entry
+  pub holds : HoldsNode of held level number next entries
+  pub low : at < length entries
+
+-- the child of the entry, with its bound
+pub record IsChildAt (low : List ℕ) (entries : List Entry) (at : ℕ) (child : Child) : Type 0 where
+  pub bound_is : child.bound ≡ (entry_at (with_bound low entries) at).pair
+  pub number_is : child.number ≡ (entry_at entries at).child
+
+-- the bytes spell no node of a level with such an entry
+abbrev pub NeverHasEntry : Nodes → ℕ → ℕ → ℕ → List ℕ → Type 0
+NeverHasEntry of level number at page = (node : NodeView) → IsNodeOf of level number node → Spells page node → at < length node.entries → ⊥

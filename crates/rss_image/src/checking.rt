@@ -6,18 +6,18 @@ ghost use Rattle.rss_base.specs.Entries.{Entry, no_page};
 ghost use Rattle.rss_base.specs.Nodes.{node_most, node_least};
 ghost use Rattle.rss_levels.specs.Entries.{Pairwise};
 ghost use Rattle.rss_levels.specs.Rows.{Row, HoldsAt, IsBefore, first, marks};
-ghost use Rattle.rss_node.specs.Nodes.{AreNodes, IsNodeOf, entry_at};
-ghost use Rattle.rss_image.specs.Trees.{cells_of};
+ghost use Rattle.rss_node.specs.Nodes.{NodeView, AreNodes, IsNodeOf, Spells, entry_at};
+ghost use Rattle.rss_image.specs.Trees.{HoldsNode};
 ghost use Rattle.rss_image.specs.Images.{nodes_of};
-ghost use Rattle.rss_image.specs.Fitting.{IsFine};
-ghost use Rattle.rss_image.specs.Checking.{AreSeen, IsSeen, IsCensus, HasSoundImage, SeesLeaf, NeverLeads, HoldsNone, leaf_part, SeesUnder, NeverStands, repeated as is_repeated, with_seen, with_bound};
+ghost use Rattle.rss_image.specs.Fitting.{IsFit};
+ghost use Rattle.rss_image.specs.Checking.{AreSeen, IsSeen, IsCensus, HasSoundImage, SeesLeaf, NeverLeads, HoldsNone, NeverFits, FitsIn, HoldsFit, SeesIn, NeverIn, IsChildAt, NeverHasEntry, HasEntryAt, leaf_part, SeesUnder, NeverStands, repeated as is_repeated, with_seen, with_bound};
 
 use crate::fitting::{are_between, is_fit, keyed_at};
 use crate::halving::zeros;
 use crate::image::Image;
-use crate::store::node_key;
-use rss_base::{Key, PAGE_BYTES, PageFault, Pages, Tid, node_most};
-use rss_node::{NO_PAGE, Node, Nodes, Pair};
+use crate::store::{damaged, load_page, node_key};
+use rss_base::{Key, Page, PageFault, Pages, Tid, node_most};
+use rss_node::{LentNode, NO_PAGE, Nodes, Pair};
 use rss_value::compare_keys;
 use std::cmp::Ordering;
 
@@ -67,14 +67,14 @@ fn copy_of(pair: &Pair) -> Pair
 }
 
 /// The bound of a child of a node: the first one has the node's own.
-fn bound_of(node: &Node, at: usize, low: &Pair) -> Pair
+fn bound_of(node: &LentNode<'_>, at: usize, low: &Pair) -> Pair
     requires { at < length node.now.entries }
     ensures { result ≡ (entry_at (with_bound low.now node.now.entries) at).pair }
 {
     if at == 0 {
         return copy_of(low);
     }
-    node.pair(at)
+    node.own_pair(at)
 }
 
 impl Seen {
@@ -105,7 +105,7 @@ impl Seen {
     }
 
     /// Sees the pairs of a leaf.
-    fn see_leaf(&mut self, node: &Node)
+    fn see_leaf(&mut self, node: &LentNode<'_>)
         requires narrow { node.now.width ≤ 120 }
         requires few { self.old.pairs + length node.now.entries < 2 ^ 64 }
         ensures next { self.new.next ≡ self.old.next }
@@ -125,7 +125,7 @@ impl Seen {
 }
 
 /// Sees a leaf before those that were seen, and answers whether it fits there.
-fn check_leaf(node: &Node, number: u32, low: &Pair, seen: &mut Seen) -> bool
+fn check_leaf(node: &LentNode<'_>, number: u32, low: &Pair, seen: &mut Seen) -> bool
     requires narrow { node.now.width ≤ 120 }
     requires few { seen.old.pairs + length node.now.entries < 2 ^ 64 }
     ensures pages { result ≡ true → seen.new.pages ≡ seen.old.pages }
@@ -147,23 +147,117 @@ fn check_leaf(node: &Node, number: u32, low: &Pair, seen: &mut Seen) -> bool
     true
 }
 
-/// Finds the node of a level in the page of a number, where it fits by itself and has at least so
-/// many entries.
-fn find_node<P: Pages>(
+/// The node of a level in the page of a number, if it fits by itself and has at least so many entries.
+fn fit_in<'a>(
+    page: &'a Page,
+    of: Nodes,
+    level: u8,
+    number: u32,
+    fewest: usize,
+    slots: u32,
+) -> Option<LentNode<'a>>
+    requires { AreNodes of }
+    ensures spelled { IfSome result (Spells page.now) }
+    ensures is { IfSome result (IsNodeOf of level number) }
+    ensures fit { IfSome result (λ node.
+        IsFit node.width slots level node.next node.entries) }
+    ensures filled { IfSome result (λ node. fewest ≤ length node.entries) }
+    ensures few { IfSome result (λ node. length node.entries ≤ node_most node.width) }
+    ensures none { result ≡ None → NeverFits of slots level number fewest page.now }
+{
+    let node = LentNode::read(page, of, level, number)?;
+    if node.count() < fewest {
+        return None;
+    }
+    if !is_fit(&node, level, slots) {
+        return None;
+    }
+    Some(node)
+}
+
+/// Sees the leaf in the page of a number before those that were seen, and answers whether it fits there.
+fn leaf_in(
+    page: &Page,
+    of: Nodes,
+    number: u32,
+    low: &Pair,
+    fewest: usize,
+    slots: u32,
+    seen: &mut Seen,
+) -> bool
+    requires of { AreNodes of }
+    requires few { seen.old.pairs ≤ 512 * seen.old.pages }
+    requires room { seen.old.pages < slots }
+    ensures few { result ≡ true → seen.new.pairs ≤ 512 * seen.new.pages }
+    ensures sees { result ≡ true
+        → SeesIn of slots number low.now fewest page.now seen.old seen.new }
+    ensures never { result ≡ false
+        → NeverIn of slots number low.now fewest page.now seen.old }
+{
+    let Some(node) = fit_in(page, of, 0, number, fewest, slots) else {
+        return false;
+    };
+    seen.pages += 1;
+    check_leaf(&node, number, low, seen)
+}
+
+/// The same of a page that is brought into memory.
+fn find_leaf<P: Pages>(
+    pages: &mut P,
+    of: Nodes,
+    number: u32,
+    low: &Pair,
+    fewest: usize,
+    seen: &mut Seen,
+) -> Result<bool, PageFault>
+    requires of { AreNodes of }
+    requires few { seen.old.pairs ≤ 512 * seen.old.pages }
+    requires room { seen.old.pages < (P.view pages.old).slots }
+    ensures few { IfOk result (λ fits. fits ≡ true → seen.new.pairs ≤ 512 * seen.new.pages) }
+    ensures sees { IfOk result (λ fits. fits ≡ true → IsTold (P.view pages.old).disk
+        → SeesUnder of (P.view pages.old) 0 number low.now fewest seen.old seen.new) }
+    ensures never { IfOk result (λ fits. fits ≡ false → IsTold (P.view pages.old).disk
+        → NeverStands of (P.view pages.old) 0 number low.now fewest seen.old) }
+    ensures did { PagesCall no_pages 1 1 (P.view pages.old) (P.view pages.new) result }
+{
+    let slots = pages.slots();
+    let key = node_key(of, number);
+    if !pages.has(key) {
+        return Ok(false);
+    }
+    pages.load(key)?;
+    Ok(leaf_in(pages.loaded(key), of, number, low, fewest, slots, seen))
+}
+
+/// How many entries the node of a level in the page of a number has, if it fits by itself and has at
+/// least so many.
+fn count_in(
+    page: &Page,
+    of: Nodes,
+    level: u8,
+    number: u32,
+    fewest: usize,
+    slots: u32,
+) -> Option<usize>
+    requires { AreNodes of }
+    ensures some { IfSome result (FitsIn of slots level number fewest page.now) }
+    ensures none { result ≡ None → NeverFits of slots level number fewest page.now }
+{
+    let node = fit_in(page, of, level, number, fewest, slots)?;
+    Some(node.count())
+}
+
+/// The same of a page that is brought into memory.
+fn find_count<P: Pages>(
     pages: &mut P,
     of: Nodes,
     level: u8,
     number: u32,
     fewest: usize,
-) -> Result<Option<Node>, PageFault>
+) -> Result<Option<usize>, PageFault>
     requires of { AreNodes of }
-    ensures fine { IfOk result (λ found. IfSome found (λ node. IsTold (P.view pages.old).disk
-        → HoldsAt (IsFine of (P.view pages.old).slots) (cells_of of (P.view pages.old).held)
-        level number node.next node.entries)) }
-    ensures is { IfOk result (λ found. IfSome found (IsNodeOf of level number)) }
-    ensures filled { IfOk result (λ found. IfSome found (λ node. fewest ≤ length node.entries)) }
-    ensures few { IfOk result (λ found. IfSome found (λ node.
-        length node.entries ≤ node_most node.width)) }
+    ensures some { IfOk result (λ found. IfSome found (λ count. IsTold (P.view pages.old).disk
+        → HoldsFit of (P.view pages.old) level number fewest count)) }
     ensures none { IfOk result (λ found. found ≡ None → IsTold (P.view pages.old).disk
         → HoldsNone of (P.view pages.old) level number fewest) }
     ensures did { PagesCall no_pages 1 1 (P.view pages.old) (P.view pages.new) result }
@@ -173,18 +267,58 @@ fn find_node<P: Pages>(
     if !pages.has(key) {
         return Ok(None);
     }
-    let mut page = [0u8; PAGE_BYTES];
-    pages.read(key, &mut page)?;
-    let Some(node) = Node::read(&page, of, level, number) else {
-        return Ok(None);
-    };
-    if node.count() < fewest {
-        return Ok(None);
+    pages.load(key)?;
+    Ok(count_in(pages.loaded(key), of, level, number, fewest, slots))
+}
+
+/// A child of a node, with its bound.
+#[derive(Drop)]
+pub(crate) struct Child {
+    pub bound: Pair,
+    pub number: u32,
+}
+
+/// The child of an entry of the node of a level, in the page of a number. None if the bytes are no such
+/// node's, or if it has no such entry.
+fn child_in(page: &Page, of: Nodes, level: u8, number: u32, at: usize, low: &Pair) -> Option<Child>
+    requires { AreNodes of }
+    ensures some { IfSome result (λ child. (node : NodeView) → IsNodeOf of level number node
+        → Spells page.now node → IsChildAt low.now node.entries at child) }
+    ensures none { result ≡ None → NeverHasEntry of level number at page.now }
+{
+    let node = LentNode::read(page, of, level, number)?;
+    if at >= node.count() {
+        return None;
     }
-    if !is_fit(&node, level, slots) {
-        return Ok(None);
+    Some(Child {
+        bound: bound_of(&node, at, low),
+        number: node.child(at),
+    })
+}
+
+/// The same of a page that is brought into memory.
+fn find_child<P: Pages>(
+    pages: &mut P,
+    of: Nodes,
+    level: u8,
+    number: u32,
+    at: usize,
+    low: &Pair,
+) -> Result<Child, PageFault>
+    requires of { AreNodes of }
+    requires there { IsTold (P.view pages.old).disk
+        → HasEntryAt of (P.view pages.old).held level number at }
+    ensures child { IfOk result (λ child. IsTold (P.view pages.old).disk
+        → (next : ℕ) (entries : List Entry)
+        → HoldsNode of (P.view pages.old).held level number next entries
+        → IsChildAt low.now entries at child) }
+    ensures did { PagesCall no_pages 1 1 (P.view pages.old) (P.view pages.new) result }
+{
+    let key = load_page(pages, of, number)?;
+    match child_in(pages.loaded(key), of, level, number, at, low) {
+        Some(child) => Ok(child),
+        None => Err(damaged(of, number)),
     }
-    Ok(Some(node))
 }
 
 /// Sees what stands under a node of a level, from right to left, and answers whether it fits before
@@ -211,24 +345,23 @@ fn check_under<P: Pages>(
     if seen.pages >= pages.slots() {
         return Ok(false);
     }
-    let Some(node) = find_node(pages, of, level, number, fewest)? else {
+    if level == 0 {
+        return find_leaf(pages, of, number, low, fewest, seen);
+    }
+    let Some(count) = find_count(pages, of, level, number, fewest)? else {
         return Ok(false);
     };
     seen.pages += 1;
-    if level == 0 {
-        return Ok(check_leaf(&node, number, low, seen));
-    }
-    let mut at = node.count();
+    let mut at = count;
     while at > 0 {
         at -= 1;
-        let bound = bound_of(&node, at, low);
-        let child = node.child(at);
+        let child = find_child(pages, of, level, number, at, low)?;
         let fits = check_under(
             pages,
             of,
             level - 1,
-            child,
-            &bound,
+            child.number,
+            &child.bound,
             node_most(of.width) / 2,
             seen,
         )?;

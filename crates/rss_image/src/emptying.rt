@@ -8,7 +8,7 @@ ghost use Rattle.rss_image.specs.Emptied.{inner_most, HasUnder, GivesUnder};
 
 use crate::store::{give_page, read_node};
 use rss_base::{PageFault, Pages};
-use rss_node::Nodes;
+use rss_node::{Node, Nodes};
 
 /// Gives the page of a node of a level, and all pages under it.
 pub(crate) fn give_under<P: Pages>(
@@ -28,9 +28,10 @@ pub(crate) fn give_under<P: Pages>(
     if level == 0 {
         return give_page(pages, of, number);
     }
-    let node = read_node(pages, of, level, number)?;
-    for at in 0..node.count() {
-        give_under(pages, of, level - 1, node.child(at))?;
+    let mut node = Node::blank(of, level, number);
+    read_node(pages, of, level, number, &mut node)?;
+    for at in 0..node.lent().count() {
+        give_under(pages, of, level - 1, node.lent().child(at))?;
     }
     give_page(pages, of, number)
 }

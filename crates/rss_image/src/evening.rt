@@ -21,7 +21,7 @@ fn name_first(node: &mut Node, level: u8, pair: &Pair)
     ensures { node.new ≡ with_entries node.old (first_named level pair.now node.old.entries) }
 {
     if level > 0 {
-        let child = node.child(0);
+        let child = node.lent().child(0);
         node.put(0, 1, pair, child);
     }
 }
@@ -33,9 +33,9 @@ fn merge(left: &mut Node, right: &Node)
     ensures { left.new ≡ with_next (with_entries left.old
         (left.old.entries ++ right.now.entries)) right.now.next }
 {
-    let count = left.count();
-    left.copy(count, right, 0, right.count());
-    left.set_next(right.next());
+    let count = left.lent().count();
+    left.copy(count, right, 0, right.lent().count());
+    left.set_next(right.lent().next());
 }
 
 /// Moves entries between two nodes, so that each has a half.
@@ -48,8 +48,8 @@ fn share(left: &mut Node, right: &mut Node)
         (drop (length (left.old.entries ++ right.old.entries) / 2)
         (left.old.entries ++ right.old.entries)) }
 {
-    let count = left.count();
-    let more = right.count();
+    let count = left.lent().count();
+    let more = right.lent().count();
     let half = (count + more) / 2;
     if count < half {
         left.copy(count, right, 0, half - count);
@@ -125,7 +125,7 @@ fn share_nodes<P: Pages>(
         (P.view pages.old) (P.view pages.new) result }
 {
     share(left, right);
-    let first = right.pair(0);
+    let first = right.lent().own_pair(0);
     let none = zeros(of.width);
     name_first(right, level, &none);
     write_node(pages, of, level, number, left)?;
@@ -154,10 +154,12 @@ pub(crate) fn even<P: Pages>(
     ensures did { PagesCall (pages_in of.segment Image) 2 4
         (P.view pages.old) (P.view pages.new) result }
 {
-    let mut left = read_node(pages, of, level, number)?;
-    let mut right = read_node(pages, of, level, other)?;
-    let count = left.count();
-    let more = right.count();
+    let mut left = Node::blank(of, level, number);
+    read_node(pages, of, level, number, &mut left)?;
+    let mut right = Node::blank(of, level, other);
+    read_node(pages, of, level, other, &mut right)?;
+    let count = left.lent().count();
+    let more = right.lent().count();
     if count == 0 {
         return Err(damaged(of, number));
     }

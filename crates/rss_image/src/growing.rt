@@ -43,7 +43,7 @@ pub(crate) fn grow<P: Pages>(
     ensures did { PagesCall (pages_in of.segment Image) 0 3
         (P.view pages.old) (P.view pages.new) result }
 {
-    if node.count() < node_most(of.width) {
+    if node.lent().count() < node_most(of.width) {
         node.put(at, 0, pair, child);
         write_node(pages, of, level, number, node)?;
         return Ok(None);
@@ -84,7 +84,7 @@ fn divide<P: Pages>(
     let other = take_page(pages, of, number)?;
     let mut right = Node::blank(of, level, other);
     halve(node, &mut right, at, pair, child);
-    let middle = right.pair(0);
+    let middle = right.lent().own_pair(0);
     settle(node, &mut right, level, other);
     write_node(pages, of, level, other, &right)?;
     write_node(pages, of, level, number, node)?;

@@ -48,7 +48,7 @@ pub(crate) fn halve(node: &mut Node, right: &mut Node, at: usize, pair: &Pair, c
     ensures right { right.new ≡ with_entries right.old (drop (node_least node.old.width + 1)
         (put_at node.old.entries at (record { pair = pair.now; child = child }))) }
 {
-    let count = node.count();
+    let count = node.lent().count();
     let half = count / 2;
     if at <= half {
         right.copy(0, node, half, count - half);
@@ -71,11 +71,11 @@ pub(crate) fn settle(node: &mut Node, right: &mut Node, level: u8, other: u32)
         (stored right.old.width level right.old.entries) }
 {
     if level == 0 {
-        right.set_next(node.next());
+        right.set_next(node.lent().next());
         node.set_next(other);
     } else {
-        let first = right.child(0);
-        let none = zeros(right.width());
+        let first = right.lent().child(0);
+        let none = zeros(right.lent().width());
         right.put(0, 1, &none, first);
     }
 }

@@ -41,7 +41,7 @@ fn keyed(found: Option<Pair>, width: u8) -> Option<(Key, Tid)>
     ensures wide { IfSome result (λ pair. length pair.0 ≡ width) }
 {
     match found {
-        Some(pair) => Some(split_pair(&pair, width)),
+        Some(pair) => Some(split_pair(pair.as_slice(), width)),
         None => None,
     }
 }
@@ -288,7 +288,7 @@ fn is_found(found: &Option<Pair>, pair: &Pair) -> bool
     ensures { IsTrue result ↔ (found.now ≡ Some pair.now) }
 {
     match found {
-        Some(other) => is_same(other, pair),
+        Some(other) => is_same(other.as_slice(), pair.as_slice()),
         None => false,
     }
 }

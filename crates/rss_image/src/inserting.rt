@@ -10,7 +10,7 @@ use crate::growing::grow;
 use crate::halving::Split;
 use crate::store::{damaged, read_node};
 use rss_base::{PageFault, Pages};
-use rss_node::{Nodes, Pair};
+use rss_node::{Node, Nodes, Pair};
 
 /// Puts a pair under a node of a level. A node that was split off is answered, for the row above.
 pub(crate) fn insert_in<P: Pages>(
@@ -32,15 +32,16 @@ pub(crate) fn insert_in<P: Pages>(
     ensures did { PagesCall (pages_in of.segment Image) (level + 1) (4 * (level + 1))
         (P.view pages.old) (P.view pages.new) result }
 {
-    let mut node = read_node(pages, of, level, number)?;
-    let at = node.place(pair, true);
+    let mut node = Node::blank(of, level, number);
+    read_node(pages, of, level, number, &mut node)?;
+    let at = node.lent().place(pair, true);
     if level == 0 {
         return grow(pages, of, level, number, &mut node, at, pair, 0);
     }
     if at == 0 {
         return Err(damaged(of, number));
     }
-    let child = node.child(at - 1);
+    let child = node.lent().child(at - 1);
     let below = insert_in(pages, of, level - 1, child, pair)?;
     match below {
         None => Ok(None),

@@ -12,11 +12,11 @@ use crate::store::{damaged, read_node, write_node};
 use rss_base::{PageFault, Pages, node_most};
 use rss_node::{Node, Nodes, Pair};
 
-/// Whether two pairs are the same.
-pub(crate) fn is_same(a: &Pair, b: &Pair) -> bool
+/// Whether two pairs are the same, as bytes.
+pub(crate) fn is_same(a: &[u8], b: &[u8]) -> bool
     ensures { IsTrue result ↔ (a.now ≡ b.now) }
 {
-    a.as_slice() == b.as_slice()
+    a == b
 }
 
 /// Takes a pair out of a leaf that was read, and answers how many it has left.
@@ -37,17 +37,16 @@ fn take_out<P: Pages>(
     ensures did { PagesCall (pages_in of.segment Image) 0 1
         (P.view pages.old) (P.view pages.new) result }
 {
-    let at = node.place(pair, false);
-    if at >= node.count() {
+    let at = node.lent().place(pair, false);
+    if at >= node.lent().count() {
         return Err(damaged(of, number));
     }
-    let found = node.pair(at);
-    if !is_same(&found, pair) {
+    if !is_same(node.lent().pair(at), pair.as_slice()) {
         return Err(damaged(of, number));
     }
     node.cut(at, 1);
     write_node(pages, of, 0, number, node)?;
-    Ok(node.count())
+    Ok(node.lent().count())
 }
 
 /// Evens out a child of a node, that lacks entries, and a neighbour of it.
@@ -73,14 +72,14 @@ fn mend<P: Pages>(
     ensures did { PagesCall (pages_in of.segment Image) 2 5
         (P.view pages.old) (P.view pages.new) result }
 {
-    let count = node.count();
+    let count = node.lent().count();
     if count < 2 {
         return Err(damaged(of, number));
     }
     let at = if place + 1 < count { place } else { count - 2 };
-    let left = node.child(at);
-    let right = node.child(at + 1);
-    let pair = node.pair(at + 1);
+    let left = node.lent().child(at);
+    let right = node.lent().child(at + 1);
+    let pair = node.lent().own_pair(at + 1);
     match even(pages, of, level - 1, left, right, &pair)? {
         None => node.cut(at + 1, 1),
         Some(first) => node.put(at + 1, 1, &first, right),
@@ -105,18 +104,19 @@ pub(crate) fn remove_in<P: Pages>(
     ensures did { PagesCall (pages_in of.segment Image) (3 * level + 1) (6 * level + 2)
         (P.view pages.old) (P.view pages.new) result }
 {
-    let mut node = read_node(pages, of, level, number)?;
+    let mut node = Node::blank(of, level, number);
+    read_node(pages, of, level, number, &mut node)?;
     if level == 0 {
         return take_out(pages, of, number, &mut node, pair);
     }
-    let at = node.place(pair, true);
+    let at = node.lent().place(pair, true);
     if at == 0 {
         return Err(damaged(of, number));
     }
-    let child = node.child(at - 1);
+    let child = node.lent().child(at - 1);
     let left = remove_in(pages, of, level - 1, child, pair)?;
     if left < node_most(of.width) / 2 {
         mend(pages, of, level, number, &mut node, at - 1)?;
     }
-    Ok(node.count())
+    Ok(node.lent().count())
 }

@@ -58,11 +58,12 @@ pub(crate) fn drop_root<P: Pages>(
     ensures did { PagesCall (pages_in of.segment Image) 1 1
         (P.view pages.old) (P.view pages.new) result }
 {
-    let node = read_node(pages, of, level, root)?;
-    if node.count() == 0 {
+    let mut node = Node::blank(of, level, root);
+    read_node(pages, of, level, root, &mut node)?;
+    if node.lent().count() == 0 {
         return Err(damaged(of, root));
     }
-    let child = node.child(0);
+    let child = node.lent().child(0);
     give_page(pages, of, root)?;
     Ok(child)
 }

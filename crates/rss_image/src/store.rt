@@ -10,8 +10,8 @@ ghost use Rattle.rss_base.specs.declared.key.PageKey.{PageKey as Key};
 ghost use Rattle.rss_node.specs.Nodes.{AreNodes, IsNodeOf};
 ghost use Rattle.rss_image.specs.Trees.{cells_of, HoldsNode, HasNode, KeepsPages, LosesNoPage, Writes};
 
-use rss_base::{PAGE_BYTES, PageFault, PageKey, Pages, Place, Space};
-use rss_node::{Node, Nodes};
+use rss_base::{PageFault, PageKey, Pages, Place, Space};
+use rss_node::{LentNode, Node, Nodes};
 
 /// The image page of this number.
 pub(crate) fn node_key(of: Nodes, number: u32) -> PageKey
@@ -31,29 +31,48 @@ pub(crate) fn damaged(of: Nodes, number: u32) -> PageFault
     PageFault::Damaged(Place::Page(node_key(of, number)))
 }
 
-/// Reads the node of a level in the page of a number.
-pub(crate) fn read_node<P: Pages>(
+/// Brings the page of a number into memory, where `loaded` lends it, and answers its key.
+pub(crate) fn load_page<P: Pages>(
     pages: &mut P,
     of: Nodes,
-    level: u8,
     number: u32,
-) -> Result<Node, PageFault>
-    requires of { AreNodes of }
-    requires there { IsTold (P.view pages.old).disk
-        → ∥ HasNode of (P.view pages.old).held level number ∥₁ }
-    ensures holds { IfOk result (λ node. IsTold (P.view pages.old).disk
-        → HoldsNode of (P.view pages.old).held level number node.next node.entries) }
-    ensures is { IfOk result (IsNodeOf of level number) }
+) -> Result<PageKey, PageFault>
+    requires mapped { IsTold (P.view pages.old).disk
+        → (P.view pages.old).mapped (page_key of.segment Image number) ≡ true }
+    ensures is { IfOk result (λ key. key ≡ page_key of.segment Image number) }
+    ensures there { IfOk result (λ key. (P.view pages.new).in_memory key ≡ true) }
     ensures did { PagesCall no_page 1 1 (P.view pages.old) (P.view pages.new) result }
 {
     let key = node_key(of, number);
     if !pages.has(key) {
         return Err(damaged(of, number));
     }
-    let mut page = [0u8; PAGE_BYTES];
-    pages.read(key, &mut page)?;
-    match Node::read(&page, of, level, number) {
-        Some(node) => Ok(node),
+    pages.load(key)?;
+    Ok(key)
+}
+
+/// Copies the node of a level in the page of a number, to edit it.
+pub(crate) fn read_node<P: Pages>(
+    pages: &mut P,
+    of: Nodes,
+    level: u8,
+    number: u32,
+    into: &mut Node,
+) -> Result<(), PageFault>
+    requires of { AreNodes of }
+    requires there { IsTold (P.view pages.old).disk
+        → ∥ HasNode of (P.view pages.old).held level number ∥₁ }
+    ensures holds { OnOk result (IsTold (P.view pages.old).disk
+        → HoldsNode of (P.view pages.old).held level number into.new.next into.new.entries) }
+    ensures is { OnOk result (IsNodeOf of level number into.new) }
+    ensures did { PagesCall no_page 1 1 (P.view pages.old) (P.view pages.new) result }
+{
+    let key = load_page(pages, of, number)?;
+    match LentNode::read(pages.loaded(key), of, level, number) {
+        Some(node) => {
+            into.fill_from(&node);
+            Ok(())
+        }
         None => Err(damaged(of, number)),
     }
 }

@@ -2,6 +2,8 @@ pub mod Parts
 pub mod Codec
 pub mod Headers
 pub mod Passed
+pub mod Words
+pub mod Lent
 pub mod Ordered
 pub mod Agreed
 pub mod Spelled

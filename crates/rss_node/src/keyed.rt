@@ -18,14 +18,13 @@ pub fn pair_of(key: &Key, tid: Tid) -> Pair
     pair
 }
 
-/// The key of a width and the identifier of a pair.
-pub fn split_pair(pair: &Pair, width: u8) -> (Key, Tid)
+/// The key of a width and the identifier of a pair, as bytes.
+pub fn split_pair(bytes: &[u8], width: u8) -> (Key, Tid)
     requires narrow { width ≤ 120 }
-    requires long { length pair.now ≡ width + 6 }
-    ensures bytes { pair_bytes result.0 result.1 ≡ pair.now }
+    requires long { length bytes.now ≡ width + 6 }
+    ensures bytes { pair_bytes result.0 result.1 ≡ bytes.now }
     ensures long { length result.0 ≡ width }
 {
-    let bytes = pair.as_slice();
     let at = width as usize;
     let mut key = Key::new();
     key.extend_from_slice(&bytes[..at]);

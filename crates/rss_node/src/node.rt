@@ -7,6 +7,7 @@ ghost use Rattle.rss_base.specs.Nodes.{node_most};
 ghost use Rattle.rss_node.specs.Nodes.{NodeView, IsBytes, entries_from, spliced, with_entries, with_next, entry_at, Spells, IsPassed, AreNodes, IsNodeOf, blank_node, header_bytes, HasForm};
 
 use crate::bytes::{is_part, part_of, put_and_move};
+use crate::order::compare_bytes;
 use crate::pair::{Nodes, Pair};
 use rss_base::{
     BoundedBytes, NODE_ENTRY_BYTES, NODE_HEADER, PAGE_BYTES, Page, node_most, put_bytes, put_u16,
@@ -15,7 +16,7 @@ use rss_base::{
 use std::cmp::Ordering;
 use std::marker::Model;
 
-/// A node, in a copy of its page.
+/// A node, in a page of its own.
 #[derive(Drop)]
 pub struct Node {
     page: Page,
@@ -30,6 +31,23 @@ impl Model for Node {
     ghost view = { λ a. node_from a.width a.page };
 
     ghost invariant = { λ a. IsOwnPage a.width a.page };
+}
+
+/// A node, in a page that is lent.
+#[derive(Drop)]
+pub struct LentNode<'a> {
+    page: &'a Page,
+    width: u8,
+}
+
+impl<'a> Model for LentNode<'a> {
+    ghost use Rattle.rss_node.specs.Nodes.{NodeView, node_from, IsOwnPage};
+
+    ghost Value = { NodeView };
+
+    ghost view = { λ a. node_from a.width a.page.now };
+
+    ghost invariant = { λ a. IsOwnPage a.width a.page.now };
 }
 
 /// The header of a node without entries.
@@ -73,37 +91,14 @@ impl Node {
         }
     }
 
-    /// The node of a level in the page of a number, where the bytes are one's.
-    pub fn read(page: &Page, of: Nodes, level: u8, number: u32) -> Option<Node>
-        requires { AreNodes of }
-        ensures spelled { IfSome result (Spells page.now) }
-        ensures is { IfSome result (IsNodeOf of level number) }
-        ensures none { IfNone result ((node : NodeView) → IsNodeOf of level number node
-            → Spells page.now node → ⊥) }
+    /// The same node, as it stands in its page.
+    pub fn lent(&self) -> LentNode<'_>
+        ensures { result ≡ self.now }
     {
-        if has_form(page, of, level, number) {
-            Some(Node {
-                page: *page,
-                width: of.width,
-            })
-        } else {
-            None
+        LentNode {
+            page: &self.page,
+            width: self.width,
         }
-    }
-
-    /// How many entries there are.
-    pub fn count(&self) -> usize
-        ensures count { result ≡ length self.now.entries }
-        ensures few { length self.now.entries ≤ node_most self.now.width }
-    {
-        usize::from(u16_at(&self.page, 8))
-    }
-
-    /// The width of its keys.
-    pub fn width(&self) -> u8
-        ensures { result ≡ self.now.width }
-    {
-        self.width
     }
 
     /// The page that spells the node.
@@ -113,61 +108,18 @@ impl Node {
         &self.page
     }
 
-    /// The next leaf's page.
-    pub fn next(&self) -> u32
-        ensures { result ≡ self.now.next }
+    /// Becomes a copy of a node that is lent.
+    pub fn fill_from(&mut self, lent: &LentNode<'_>)
+        ensures { self.new ≡ lent.now }
     {
-        u32_at(&self.page, 12)
+        self.page = *lent.page;
+        self.width = lent.width;
     }
 
     pub fn set_next(&mut self, next: u32)
         ensures { self.new ≡ with_next self.old next }
     {
         put_u32(&mut self.page, 12, next);
-    }
-
-    /// The pair of an entry.
-    pub fn pair(&self, at: usize) -> Pair
-        requires { at < length self.now.entries }
-        ensures pair { result ≡ (entry_at self.now.entries at).pair }
-        ensures long { length result ≡ self.now.width + 6 }
-    {
-        let size = self.width as usize + NODE_ENTRY_BYTES;
-        let start = NODE_HEADER + at * size;
-        let mut pair = Pair::new();
-        pair.extend_from_slice(part_of(&self.page, start, size - 4));
-        pair
-    }
-
-    /// The child of an entry.
-    pub fn child(&self, at: usize) -> u32
-        requires { at < length self.now.entries }
-        ensures { result ≡ (entry_at self.now.entries at).child }
-    {
-        let size = self.width as usize + NODE_ENTRY_BYTES;
-        u32_at(&self.page, NODE_HEADER + at * size + (size - 4))
-    }
-
-    /// The first entry that isn't passed by a search for a pair, where entries are sorted.
-    pub fn place(&self, target: &Pair, beyond: bool) -> usize
-        ensures within { result ≤ length self.now.entries }
-        ensures before { 0 < result
-            → IsPassed beyond (entry_at self.now.entries (result - 1)).pair target.now }
-        ensures here { result < length self.now.entries
-            → IsPassed beyond (entry_at self.now.entries result).pair target.now → ⊥ }
-    {
-        let mut low = 0;
-        let mut high = self.count();
-        while low < high {
-            let middle = low + (high - low) / 2;
-            let pair = self.pair(middle);
-            if passes(&pair, target, beyond) {
-                low = middle + 1;
-            } else {
-                high = middle;
-            }
-        }
-        low
     }
 
     /// Puts an entry from a place on, in place of so many that are there. In place of none it takes room.
@@ -217,7 +169,7 @@ impl Node {
             (entries_from self.old.width count bytes.now)) }
     {
         let size = self.width as usize + NODE_ENTRY_BYTES;
-        let old = self.count();
+        let old = self.lent().count();
         let from = NODE_HEADER + (at + removed) * size;
         put_and_move(
             &mut self.page,
@@ -231,12 +183,107 @@ impl Node {
     }
 }
 
-/// Whether a search for a pair passes another one.
-fn passes(pair: &Pair, target: &Pair, beyond: bool) -> bool
+impl<'a> LentNode<'a> {
+    /// The node of a level in the page of a number, if the bytes are one's.
+    pub fn read(page: &'a Page, of: Nodes, level: u8, number: u32) -> Option<LentNode<'a>>
+        requires { AreNodes of }
+        ensures spelled { IfSome result (Spells page.now) }
+        ensures is { IfSome result (IsNodeOf of level number) }
+        ensures none { IfNone result ((node : NodeView) → IsNodeOf of level number node
+            → Spells page.now node → ⊥) }
+    {
+        if has_form(page, of, level, number) {
+            Some(LentNode {
+                page,
+                width: of.width,
+            })
+        } else {
+            None
+        }
+    }
+
+    /// How many entries there are.
+    pub fn count(&self) -> usize
+        ensures count { result ≡ length self.now.entries }
+        ensures few { length self.now.entries ≤ node_most self.now.width }
+    {
+        usize::from(u16_at(self.page, 8))
+    }
+
+    /// The width of its keys.
+    pub fn width(&self) -> u8
+        ensures { result ≡ self.now.width }
+    {
+        self.width
+    }
+
+    /// The next leaf's page.
+    pub fn next(&self) -> u32
+        ensures { result ≡ self.now.next }
+    {
+        u32_at(self.page, 12)
+    }
+
+    /// The bytes of an entry's pair.
+    pub fn pair(&self, at: usize) -> &[u8]
+        requires { at < length self.now.entries }
+        ensures pair { result.now ≡ (entry_at self.now.entries at).pair }
+        ensures long { length result.now ≡ self.now.width + 6 }
+        ensures short { length result.now ≤ 126 }
+    {
+        let size = self.width as usize + NODE_ENTRY_BYTES;
+        let start = NODE_HEADER + at * size;
+        part_of(self.page, start, size - 4)
+    }
+
+    /// An entry's pair, as one of its own.
+    pub fn own_pair(&self, at: usize) -> Pair
+        requires { at < length self.now.entries }
+        ensures pair { result ≡ (entry_at self.now.entries at).pair }
+        ensures long { length result ≡ self.now.width + 6 }
+    {
+        let mut pair = Pair::new();
+        pair.extend_from_slice(self.pair(at));
+        pair
+    }
+
+    /// The child of an entry.
+    pub fn child(&self, at: usize) -> u32
+        requires { at < length self.now.entries }
+        ensures { result ≡ (entry_at self.now.entries at).child }
+    {
+        let size = self.width as usize + NODE_ENTRY_BYTES;
+        u32_at(self.page, NODE_HEADER + at * size + (size - 4))
+    }
+
+    /// The first entry that isn't passed by a search for a pair, if entries are sorted.
+    pub fn place(&self, target: &Pair, beyond: bool) -> usize
+        ensures within { result ≤ length self.now.entries }
+        ensures before { 0 < result
+            → IsPassed beyond (entry_at self.now.entries (result - 1)).pair target.now }
+        ensures here { result < length self.now.entries
+            → IsPassed beyond (entry_at self.now.entries result).pair target.now → ⊥ }
+    {
+        let mut low = 0;
+        let mut high = self.count();
+        while low < high {
+            let middle = low + (high - low) / 2;
+            if passes(self.pair(middle), target.as_slice(), beyond) {
+                low = middle + 1;
+            } else {
+                high = middle;
+            }
+        }
+        low
+    }
+}
+
+/// Whether a search for a pair passes another one, both as bytes.
+fn passes(pair: &[u8], target: &[u8], beyond: bool) -> bool
     ensures yes { result ≡ true → IsPassed beyond pair.now target.now }
     ensures no { result ≡ false → IsPassed beyond pair.now target.now → ⊥ }
 {
-    match pair.as_slice().cmp(target.as_slice()) {
+    match compare_bytes(pair, target) {
         Ordering::Less => true,
         Ordering::Equal => beyond,
         Ordering::Greater => false,

@@ -3,6 +3,7 @@ pub mod LookedAll
 pub mod LookedPages
 pub mod SeenHomes
 pub mod Followed
+pub mod Located
 pub mod Looks
 pub mod Links
 pub mod Seen

@@ -10,13 +10,13 @@ use Rattle.rss_base.specs.declared.place.Place.{Place}
 use Rattle.rss_base.specs.declared.fault.PageFault.{PageFault}
 use Rattle.rss_base.specs.declared.fault.PageFault.TheVariants.{Device as DeviceFailed, Damaged, NoMemory}
 use Rattle.rss_base.specs.declared.key.PageKey.{PageKey}
-use Rattle.rss_base.proofs.Steps.{done, all_mapped, all_held, all_notes, none_changed_more}
+use Rattle.rss_base.proofs.Steps.{done, fails, all_mapped, all_held, all_notes, none_changed_more}
 use Rattle.rss_tuple.specs.Edits.{KeepsEntries}
 use Rattle.rss_page.specs.Content.{Empty}
 use Rattle.rss_page.proofs.Contents.{length-entries}
 use Rattle.rss_tuple.specs.Directory.{contents_in, content_at, homes, overflows, bodies_of}
 use Rattle.rss_tuple.specs.Heaps.{IsHeap, AreFormed, AreLinked, AreHeaps}
-use Rattle.rss_tuple.specs.TupleSteps.{TuplesCall, tuples_in, no_tuple}
+use Rattle.rss_tuple.specs.TupleSteps.{Tuples, TuplesView, TuplesCall, tuples_in, no_tuple}
 
 -- a fact about a success
 pub on_ok : {T E : Type 0} {P : Type 0} (result : Result T E) → P → OnOk result P
@@ -105,3 +105,17 @@ not_ok fault P (Err e) is = tt
 pub if_ok_then : {T E : Type 0} {P Q : T → Type 0} (result : Result T E) → ((value : T) → P value → Q value) → IfOk result P → IfOk result Q
 if_ok_then (Ok value) follows fact = follows value fact
 if_ok_then (Err e) follows fact = tt
+
+-- ---- calls on tuples
+
+-- a call whose answer follows from that of another one, which was all that it did
+pub answers : {T U : Type 0} {touched : Keys} {tuples : Tuples} {cost : ℕ} {old new : TuplesView} {found : T} (value : U) → TuplesCall touched tuples cost old new (Ok found) → TuplesCall touched tuples cost old new (Ok value)
+answers value call = record { below = done value call.below.step; heaps = call.heaps; others = call.others }
+
+-- its error is passed on
+pub hands_on : {T U : Type 0} {touched : Keys} {tuples : Tuples} {cost : ℕ} {old new : TuplesView} {fault : PageFault} (result : Result U PageFault) → IsErrAnd result (λ why. why ≡ fault) → TuplesCall {T = T} touched tuples cost old new (Err fault) → TuplesCall touched tuples cost old new result
+hands_on {fault = fault} result is call = record {
+  below = fails result is (λ key there. there) (omega arith) (omega arith) call.below;
+  heaps = not_ok fault _ result is;
+  others = not_ok fault _ result is;
+}

@@ -1,14 +1,17 @@
 -- What is found of a tuple in pages.
 use Rattle.std.specs.Prelude.{◌≡◌, ◌⊎◌, ℕ, ◌<◌, ◌≤◌, Bool, true, false, List, length, Option, MatchOption}
+use Rattle.rss_base.specs.Paged.{Held}
 use Rattle.rss_base.specs.Sizes.{page_entries}
+use Rattle.rss_base.specs.Steps.{PagesView}
+use Rattle.rss_base.specs.declared.key.PageKey.{PageKey}
 use Rattle.rss_base.specs.declared.tid.Tid.{Tid}
 use Rattle.rss_page.specs.Content.{Content, Empty, Here, Forward}
 use Rattle.rss_page.specs.Surveyed.{held_at}
-use Rattle.rss_tuple.specs.Calls.{IsBodyLength}
+use Rattle.rss_page.specs.declared.entry_form.Entry.{Entry}
+use Rattle.rss_page.specs.declared.entry_form.Entry.TheVariants.{Empty as EmptyEntry, Here as HereEntry, Forward as ForwardEntry}
 use Rattle.rss_base.specs.Tids.{IsAfter}
+use Rattle.rss_tuple.specs.Located.{place_in, IsInMemory, StandsAt}
 use Rattle.rss_tuple.specs.TupleSteps.{TuplesView, IsLive, IsLeast, NoneIs}
-use Rattle.rss_tuple.specs.declared.reading.Found.{Found}
-use Rattle.rss_tuple.specs.declared.reading.Found.TheVariants.{Nothing, Body, Elsewhere}
 
 -- ---- a fetch
 
@@ -16,17 +19,18 @@ use Rattle.rss_tuple.specs.declared.reading.Found.TheVariants.{Nothing, Body, El
 abbrev pub IsFetched : Option (List ℕ) → Bool → List ℕ → Type 0
 IsFetched body live read = MatchOption body (live ≡ false) (λ bytes. (live ≡ true) × (read ≡ bytes))
 
--- what was found is what the entry holds
-abbrev pub IsFound : Found → Content → List ℕ → Type 0
-IsFound Nothing content read = content ≡ Empty
-IsFound Body content read = content ≡ Here read
-IsFound (Elsewhere page slot) content read = content ≡ Forward page slot
+-- an entry of the page of a key holds this; a body stands where the entry says
+abbrev pub IsHeldBy : Held → PageKey → Content → Entry → Type 0
+IsHeldBy held key content EmptyEntry = content ≡ Empty
+IsHeldBy held key content (HereEntry place length) =
+    StandsAt held (λ bytes. content ≡ Here bytes) (place_in key place length)
+IsHeldBy held key content (ForwardEntry page slot) = content ≡ Forward page slot
 
--- it may stand in a page: a body has as many bytes as that of a tuple may have, and a forward leads to one of the slots of a page
-abbrev pub IsInForm : Found → List ℕ → Type 0
-IsInForm Nothing read = Unit {0}
-IsInForm Body read = IsBodyLength (length read)
-IsInForm (Elsewhere page slot) read = slot < page_entries
+-- It may stand there: a body is one of a tuple's, in a page that is in memory, and a forward leads to one of the slots of a page.
+abbrev pub IsInForm : PagesView → PageKey → Entry → Type 0
+IsInForm view key EmptyEntry = Unit {0}
+IsInForm view key (HereEntry place length) = IsInMemory view (place_in key place length)
+IsInForm view key (ForwardEntry page slot) = slot < page_entries
 
 -- ---- the next tuple
 

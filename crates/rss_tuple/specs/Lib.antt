@@ -4,6 +4,7 @@ pub mod TupleSteps
 pub mod Placing
 pub mod Calls
 pub mod Edits
+pub mod Located
 pub mod Finding
 pub mod Spots
 pub mod Puts

@@ -1,6 +1,7 @@
 //! A tuple store over pages: a finite map from the identifiers of a segment to bodies.
 #![tactic(auto)]
 
+mod body_at;
 mod checking;
 mod choosing;
 mod entries;
@@ -12,6 +13,7 @@ mod store;
 mod tuples;
 mod walking;
 
+pub use body_at::BodyAt;
 pub use checking::{Visitor, check};
 pub use store::Store;
 pub use tuples::Tuples;

@@ -3,12 +3,13 @@ ghost use Rattle.std.proofs.Common.{refl};
 ghost use Rattle.std.specs.Prelude.{◌≡◌};
 ghost use Rattle.rss_tuple.specs.TupleSteps.{tuples_in};
 
+use crate::body_at::BodyAt;
 use crate::choosing::choose;
 use crate::placing::{insert_at, remove, replace};
-use crate::reading::fetch;
+use crate::reading::locate;
 use crate::tuples::Tuples;
 use crate::walking::next_live;
-use rss_base::{Body, PAGE_BYTES, Page, PageFault, Pages, Tid};
+use rss_base::{PAGE_BYTES, Page, PageFault, Pages, Tid};
 
 /// The tuples of any pages.
 #[derive(Drop)]
@@ -62,8 +63,12 @@ impl<P: Pages> Tuples for Store<P> {
         insert_at(&mut self.pages, segment, tid, body)
     }
 
-    fn fetch(&mut self, segment: u8, tid: Tid, into: &mut Body) -> Result<bool, PageFault> {
-        fetch(&mut self.pages, segment, tid, into)
+    fn locate(&mut self, segment: u8, tid: Tid) -> Result<Option<BodyAt>, PageFault> {
+        locate(&mut self.pages, segment, tid)
+    }
+
+    fn body(&self, at: BodyAt) -> &[u8] {
+        at.bytes_in(self.pages.loaded(at.key))
     }
 
     fn replace(&mut self, segment: u8, tid: Tid, body: &[u8]) -> Result<(), PageFault> {

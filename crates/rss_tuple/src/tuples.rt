@@ -1,9 +1,10 @@
 // Tuples by their segments and identifiers.
-ghost use Rattle.std.specs.Prelude.{◌≡◌, ◌+◌, length, None, IsTrue, IfOk, IfSome, OnOk};
+ghost use Rattle.std.specs.Prelude.{◌≡◌, ◌+◌, ◌≤◌, length, None, Some, IsTrue, IfOk, IfSome, OnOk};
 ghost use Rattle.rss_base.specs.DiskRule.{IsTold};
 ghost use Rattle.rss_base.specs.Steps.{no_page};
 ghost use Rattle.rss_tuple.specs.Directory.{bodies_of, with_body};
-ghost use Rattle.rss_tuple.specs.Heaps.{AreHeaps};
+ghost use Rattle.rss_tuple.specs.Heaps.{body_most, AreHeaps};
+ghost use Rattle.rss_tuple.specs.Located.{body_there, IsInMemory, IsLocated};
 ghost use Rattle.rss_tuple.specs.TupleSteps.{TuplesView, TuplesCall, no_tuple, only_tuple, pages_for};
 ghost use Rattle.rss_base.specs.Tids.{IsAfter};
 ghost use Rattle.rss_tuple.specs.Finding.{IsFetched, FindsNext};
@@ -12,6 +13,7 @@ ghost use Rattle.rss_tuple.specs.Calls.{IsSegment, IsBodyLength, MayPut, MayInse
 ghost use Rattle.rss_tuple.specs.Calls.{IsNoLonger, IsNowhere, damaged_home};
 ghost use Rattle.rss_tuple.specs.Calls.{Chooses, PutsTuple};
 
+use crate::body_at::BodyAt;
 use rss_base::{Body, PageFault, Tid};
 
 /// The tuples of a store: a finite map from the identifiers of each segment to bodies of 1 to 2,400
@@ -37,6 +39,22 @@ pub trait Tuples {
         ensures { PutsTuple segment tid body.now ((view self.old).pages.slots + 4)
             (view self.old) (view self.new) result };
 
+    /// Finds out where the body of a tuple stands, if there is one. Asks for two pages at most. The
+    /// page may leave memory with the next call that changes `self`.
+    fn locate(&mut self, segment: u8, tid: Tid) -> Result<Option<BodyAt>, PageFault>
+        requires heaps { IsTold (view self.old).pages.disk → AreHeaps (view self.old).pages }
+        ensures found { IfOk result (λ found. IsTold (view self.old).pages.disk
+            → IsLocated (view self.new).pages.held ((view self.old).bodies segment tid) found) }
+        ensures there { IfOk result (λ found. IfSome found (IsInMemory (view self.new).pages)) }
+        ensures did { TuplesCall no_page no_tuple 2 (view self.old) (view self.new) result };
+
+    /// Lends the bytes of a body, without a copy of them.
+    fn body(&self, at: BodyAt) -> &[u8]
+        requires { IsInMemory (view self.now).pages at }
+        ensures are { IsTold (view self.now).pages.disk
+            → body_there (view self.now).pages.held at ≡ Some result.now }
+        ensures many { length result.now ≡ at.length };
+
     /// Finds out whether a tuple stands at an identifier, and if so, copies its body. Asks for two
     /// pages at most.
     fn fetch(&mut self, segment: u8, tid: Tid, into: &mut Body) -> Result<bool, PageFault>
@@ -44,7 +62,14 @@ pub trait Tuples {
         ensures fetched { IfOk result (λ live. IsTold (view self.old).pages.disk
             → IsFetched ((view self.old).bodies segment tid) live into.new) }
         ensures body { IfOk result (λ live. IsTrue live → IsBodyLength (length into.new)) }
-        ensures did { TuplesCall no_page no_tuple 2 (view self.old) (view self.new) result };
+        ensures did { TuplesCall no_page no_tuple 2 (view self.old) (view self.new) result }
+    {
+        let Some(at) = self.locate(segment, tid)? else {
+            return Ok(false);
+        };
+        fill(into, self.body(at));
+        Ok(true)
+    }
 
     /// Puts another body in place of that of a tuple. Takes no page where the body isn't longer.
     fn replace(&mut self, segment: u8, tid: Tid, body: &[u8]) -> Result<(), PageFault>
@@ -83,4 +108,16 @@ pub trait Tuples {
     /// The bodies are those that the pages say.
     ghost are_in_pages: { (tuples : Self)
         → (view tuples).bodies ≡ bodies_of (view tuples).pages.held };
+}
+
+/// Puts these bytes into a body, in place of those that it has.
+fn fill(into: &mut Body, bytes: &[u8])
+    requires { length bytes.now ≤ body_most }
+    ensures { into.new ≡ bytes.now }
+{
+    // A new one is zeroed, which costs more than all else here.
+    if !into.as_slice().is_empty() {
+        *into = Body::new();
+    }
+    into.extend_from_slice(bytes);
 }

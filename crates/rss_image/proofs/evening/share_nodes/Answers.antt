@@ -5,6 +5,9 @@ use Rattle.rss_image.specs.Removed.{first_named}
 use Rattle.rss_image.proofs.Evened.{shared_of}
 use Rattle.rss_image.proofs.evening.share_nodes.Goals as goal
 
+pub returns-in_err-write_node-clause-did : goal.returns-in_err-write_node-clause-did
+returns-in_err-write_node-clause-did g c = fails _ c.from_residual.ensures.1 (λ key there. there) (omega arith) (omega arith) c.in_err-write_node.ensures.did
+
 pub returns-in_err-write_node-2-clause-did : goal.returns-in_err-write_node-2-clause-did
 returns-in_err-write_node-2-clause-did g c = fails _ c.from_residual-in_err-write_node-2.ensures.1 (λ key there. there) (omega arith) (omega arith) (then_call c.in_ok-write_node.ensures.did.step c.in_err-write_node-2.ensures.did)
 

@@ -12,6 +12,7 @@ use Rattle.rss_image.specs.Grown.{put_at, left_next, right_next}
 use Rattle.rss_image.specs.Trees.{HoldsNode}
 use Rattle.rss_image.proofs.Calls.{divides}
 use Rattle.rss_image.proofs.Halves.{long_put, begins_entry, many}
+use Rattle.rss_node.proofs.Lent.{lent_long, lent_pair}
 use Rattle.rss_image.proofs.growing.divide.Goals as goal
 
 pub returns-in_err-write_node-clause-did : goal.returns-in_err-write_node-clause-did
@@ -57,7 +58,7 @@ returns-clause-halved g c = λ told.
       right = drop half all;
       entries_are = sym (take-append-drop half all);
       many = omega (arith, long);
-      begins = begins_entry c.pair-middle.result (drop half all) (omega (arith, right_long, long, same)) (c.pair-middle.ensures.pair ∙ ap (λ (l : List Entry). (entry_at l 0).pair) right_entries);
+      begins = begins_entry c.own_pair-middle.result (drop half all) (omega (arith, right_long, long, same)) ((lent_pair c.lent.ensures 0 c.own_pair-middle.ensures.pair) ∙ ap (λ (l : List Entry). (entry_at l 0).pair) right_entries);
       left_full = omega (arith, left_long, same);
       right_full = omega (arith, right_long, long, same);
       left_few = omega (arith, left_long, same);
@@ -80,4 +81,4 @@ returns-clause-long g c =
     let half : ℕ = node_least c.args.node.now.width + 1 in
     let all : List Entry = put_at c.args.node.now.entries c.args.at (record { pair = c.args.pair.now; child = c.args.child }) in
     let right_width : c.halve.new.right.width ≡ c.args.of.width = ap (λ (n : NodeView). n.width) (c.halve.ensures.right ∙ ap (λ (n : NodeView). with_entries n (drop half all)) c.blank-right.ensures) in
-    c.pair-middle.ensures.long ∙ ap (λ (n : ℕ). n + 6) right_width
+    (lent_long c.lent.ensures c.own_pair-middle.ensures.long) ∙ ap (λ (n : ℕ). n + 6) right_width

@@ -1,5 +1,6 @@
 use Rattle.std.proofs.Common.{refl, sym, ◌∙◌}
 use Rattle.std.proofs.lemmas.Result.{IfOk-weaker}
+use Rattle.rss_base.proofs.Steps.{done, rests}
 use Rattle.rss_members.proofs.testing.has_left.Goals as goal
 
 pub returns-in-Some-clause-has : goal.returns-in-Some-clause-has
@@ -9,3 +10,10 @@ returns-in-Some-clause-has g c = IfOk-weaker c.stands_under.result _ _ (λ found
 
 pub returns-in-None-clause-has : goal.returns-in-None-clause-has
 returns-in-None-clause-has g c = λ told tables link spells at. rw c.in-None.is ((λ yes. tt), (λ there. refl))
+
+pub returns-in-None-clause-did : goal.returns-in-None-clause-did
+returns-in-None-clause-did g c = record {
+  below = done _ (rests _);
+  heaps = c.requires.heaps;
+  others = λ told segment tid other. refl;
+}

@@ -1,8 +1,11 @@
-use Rattle.std.proofs.Common.{◌∙◌, sym, ap}
+use Rattle.std.proofs.Common.{◌∙◌, sym, ap, arith}
 use Rattle.rss_base.specs.Paged.{Held}
 use Rattle.rss_base.proofs.Looking.{looks_then, looks_more}
-use Rattle.rss_tuple.proofs.Looks.{looks_done, looks_damaged, noted_one, names_page}
+use Rattle.rss_tuple.proofs.Looks.{looks_done, looks_damaged, looks_fails, looks_wider, noted_one, names_page}
 use Rattle.rss_tuple.proofs.checking.look_at.Goals as goal
+
+pub returns-in_err-bring-clause-did : goal.returns-in_err-bring-clause-did
+returns-in_err-bring-clause-did g c = looks_fails _ c.from_residual.ensures.1 (looks_wider (λ key none. absurd none) (omega arith) (λ told sound. tt) c.in_err-bring.ensures.did)
 
 pub returns-in_default-clause-did : goal.returns-in_default-clause-did
 returns-in_default-clause-did g c =
