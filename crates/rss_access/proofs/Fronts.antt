@@ -16,7 +16,7 @@ use Rattle.rss_members.proofs.Prefixed.{long_blank}
 use Rattle.rss_access.specs.declared.edit.Edit.{Edit}
 use Rattle.rss_access.specs.declared.edit.Edit.TheVariants.{Insert, Delete, Update}
 use Rattle.rss_access.specs.Edits.{told_of}
-use Rattle.rss_access.specs.Alterations.{IsFront, IsFound, with_front}
+use Rattle.rss_access.specs.Alterations.{IsFront, IsFound, IsNotFound, with_front}
 use Rattle.rss_access.specs.Told.{values_after}
 use Rattle.rss_access.specs.Tuples.{IsShortBody}
 
@@ -37,10 +37,13 @@ delete_front listing number tid is bytes body (Some front) of = subst (λ (edit 
   is = of.0;
 })
 
--- what was fetched is what is found
-pub some_found : {A : Type 0} (told_change : told.Change) (fetched : Option (List ℕ) → Type 0) {held : Option (List ℕ)} (found : Option (List ℕ)) → (A → fetched held) → IfSome found (λ front. (h : Option (List ℕ)) → fetched h → IsFound told_change h front) → IfSome found (λ front. A → IsFound told_change held front)
-some_found told_change fetched None on is = tt
-some_found told_change fetched {held = held} (Some front) on is = λ a. is held (on a)
+-- what is found of the bytes that are lent is found of the body
+pub found_as : {A : Type 0} (told_change : told.Change) {held lent : Option (List ℕ)} (found : Option (List ℕ)) → (A → held ≡ lent) → IfSome found (IsFound told_change lent) → IfSome found (λ front. A → IsFound told_change held front)
+found_as told_change None same is = tt
+found_as told_change (Some front) same is = λ a. same a ∙ is
+
+pub not_found_as : {listing : Listing} {told_change : told.Change} {held lent : Option (List ℕ)} → held ≡ lent → IsNotFound listing told_change lent → IsNotFound listing told_change held
+not_found_as same none front is found = none front is (sym same ∙ found)
 
 -- what stands there, where it was found
 pub front_given : (listing : Listing) (told_change : told.Change) (found : Option (List ℕ)) (front : List ℕ) → found ≡ Some front → IfSome found (IsFront listing told_change) → IsFront listing told_change front

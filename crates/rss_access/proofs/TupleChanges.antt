@@ -6,7 +6,7 @@ use Rattle.std.proofs.lemmas.Bool.{cases_Bool, cases_eq, cases_lt, cond-true, co
 use Rattle.std.proofs.lemmas.List.{length-map, get_or-map, get_or-set_same, get_or-set_other}
 use Rattle.std.proofs.lemmas.List.Sums.{sum_by-cons, sum-map, get_or-le-sum_by}
 use Rattle.std.proofs.lemmas.List.FromFn.{length-map-range_with_len, get_or-map-range_with_len, get_or-range_with_len}
-use Rattle.std.proofs.lemmas.Option.{same_Some}
+use Rattle.std.proofs.lemmas.Option.{none-some, same_Some}
 use Rattle.rss_base.specs.DiskRule.{IsTold}
 use Rattle.rss_base.specs.Paged.{Mapped, Held, IsUnmappedAt, page_key, mapped_in, mapped_of, mapped_pages}
 use Rattle.rss_base.specs.Steps.{PagesView, Keys, no_page}
@@ -253,24 +253,22 @@ live_low view segment tid live = elim (cases_lt tid.slot 128) [
 
 -- ---- a body that was found
 
--- the body that was read is that of the tuple
-pub fetched_body : (body : Option (List ℕ)) (live : Bool) (read : List ℕ) → IsFetched body live read → live ≡ true → body ≡ Some read
-fetched_body None live read is there = absurd (let never : false ≡ true = sym is ∙ there in cc)
-fetched_body (Some bytes) live read is there = ap Some (sym is.1)
+-- there is none
+pub absent_body : {segment number : ℕ} {tid : Tid} {pages : PagesView} → body_at pages segment tid ≡ None → FindsBody segment number tid pages false []
+absent_body none = record { rest = []; some = λ is. absurd (true≢false (sym is)); none = λ not values stands. none-some _ (sym none ∙ stands) }
 
--- What a look at an identifier found, by the first byte of the body that it read.
-pub finds_body : {segment number : ℕ} {tid : Tid} {pages : PagesView} (live : Bool) (read : List ℕ) (is_there : Bool) → IsFetched (body_at pages segment tid) live read → (is_there ≡ true → (live ≡ true) × (slice_get read 0 ≡ Some number)) → (live ≡ true → slice_get read 0 ≡ Some number → is_there ≡ true) → FindsBody segment number tid pages is_there read
-finds_body {segment = segment} {number = number} {tid = tid} {pages = pages} live read is_there fetched holds so = record {
-  rest = drop 1 read;
-  some = λ is. let found = holds is in (headed read found.1, fetched_body _ live read fetched found.0);
-  none = λ not values stands. no values not stands;
-}
+-- it begins with the number of the relation
+pub own_body : {segment number : ℕ} {tid : Tid} {pages : PagesView} {body : List ℕ} → body_at pages segment tid ≡ Some body → slice_get body 0 ≡ Some number → FindsBody segment number tid pages true body
+own_body {number = number} {body = body} stands first = record { rest = drop 1 body; some = λ is. (headed body first, stands); none = λ not. absurd (true≢false not) }
   where
     headed : (read : List ℕ) → slice_get read 0 ≡ Some number → read ≡ number ∷ drop 1 read
     headed [] is = absurd (cc)
-    headed (first ∷ rest) is = ap (λ (n : ℕ). n ∷ rest) (same_Some _ _ is)
+    headed (byte ∷ rest) is = ap (λ (n : ℕ). n ∷ rest) (same_Some _ _ is)
 
-    no : (values : List ℕ) → is_there ≡ false → body_at pages segment tid ≡ Some (number ∷ values) → ⊥
-    no values not stands =
-        let is : IsFetched (Some (number ∷ values)) live read = subst (λ (b : Option (List ℕ)). IsFetched b live read) stands fetched in
-        true≢false (sym (so is.0 (ap (λ (l : List ℕ). slice_get l 0) is.1)) ∙ not)
+-- it doesn't
+pub other_body : {segment number : ℕ} {tid : Tid} {pages : PagesView} {body : List ℕ} → body_at pages segment tid ≡ Some body → (slice_get body 0 ≡ Some number → ⊥) → FindsBody segment number tid pages false []
+other_body stands other = record {
+  rest = [];
+  some = λ is. absurd (true≢false (sym is));
+  none = λ not values is. other (ap (λ (b : List ℕ). slice_get b 0) (same_Some _ _ (sym stands ∙ is)));
+}

@@ -1,9 +1,9 @@
 -- What the calls on tuples do to the pages.
-use Rattle.std.specs.Prelude.{◌≡◌, ◌⊎◌, ℕ, ◌<◌, ◌≤◌, Bool, true, false, List, ◌∷◌, length, sum_by, Option, Some, MatchOption, option_map, unwrap_or}
+use Rattle.std.specs.Prelude.{◌≡◌, ◌⊎◌, ℕ, ◌<◌, ◌≤◌, Bool, true, false, List, [], ◌∷◌, length, sum_by, Option, Some, MatchOption, option_map, unwrap_or}
 use Rattle.std.specs.List.{range_with_len}
 use Rattle.rss_base.specs.DiskRule.{IsTold}
 use Rattle.rss_base.specs.Sizes.{page_entries, bodies_room}
-use Rattle.rss_base.specs.Paged.{mapped_pages}
+use Rattle.rss_base.specs.Paged.{Held, mapped_pages}
 use Rattle.rss_base.specs.Steps.{PagesView}
 use Rattle.rss_base.specs.declared.tid.Tid.{Tid}
 use Rattle.rss_base.specs.declared.key.PageKey.{PageKey}
@@ -12,7 +12,9 @@ use Rattle.rss_page.specs.Slotted.{IsHeapKey}
 use Rattle.rss_tuple.specs.Directory.{Bodies, bodies_of, with_body, tid_at}
 use Rattle.rss_base.specs.Tids.{IsAfter}
 use Rattle.rss_tuple.specs.Heaps.{body_most, AreHeaps}
+use Rattle.rss_tuple.specs.Located.{StandsAt}
 use Rattle.rss_tuple.specs.TupleSteps.{IsLeast, NoneIs}
+use Rattle.rss_tuple.specs.declared.body_at.BodyAt.{BodyAt}
 
 -- the pages that a tuple may have: the home pages of its identifier's number, and overflow pages
 abbrev pub IsPageFor : Tid → PageKey → Type 0
@@ -82,7 +84,21 @@ pub record IsNextBody (segment number : ℕ) (after : Option Tid) (pages : Pages
   pub least : IsLeast (IsNextOf segment number after pages) tid
   pub body : body_at pages segment tid ≡ Some bytes
 
+-- ---- where bodies stand
+
+-- Where the body stands of the tuple with an identifier, where that is one of the relation of this number.
+abbrev pub FindsBodyAt : ℕ → ℕ → Tid → PagesView → Held → Option BodyAt → Type 0
+FindsBodyAt segment number tid pages held found =
+    MatchOption found (FindsBody segment number tid pages false [])
+    (StandsAt held (FindsBody segment number tid pages true))
+
+-- the next tuple of a relation, and where its body stands
+abbrev pub IsNextBodyAt : ℕ → ℕ → Option Tid → PagesView → Held → Tid × BodyAt → Type 0
+IsNextBodyAt segment number after pages held next =
+    StandsAt held (λ bytes. IsNextBody segment number after pages bytes next.0) next.1
+
 -- if there is one
-abbrev pub FindsNextBody : ℕ → ℕ → Option Tid → PagesView → Option Tid → List ℕ → Type 0
-FindsNextBody segment number after pages found bytes =
-    MatchOption found (NoneIs (IsNextOf segment number after pages)) (IsNextBody segment number after pages bytes)
+abbrev pub FindsNextBodyAt : ℕ → ℕ → Option Tid → PagesView → Held → Option (Tid × BodyAt) → Type 0
+FindsNextBodyAt segment number after pages held found =
+    MatchOption found (NoneIs (IsNextOf segment number after pages))
+    (IsNextBodyAt segment number after pages held)

@@ -154,9 +154,10 @@ fn front_of<P: Pages>(
         → AreHeaps (P.view tuples.new.pages)) }
     ensures did { PagesCall no_page 2 2 (P.view tuples.old.pages) (P.view tuples.new.pages) result }
 {
-    let mut body = Body::new();
-    let live = tuples.fetch(segment, change.tid, &mut body)?;
-    Ok(change.front_in(catalog, live, body.as_slice()))
+    let Some(at) = tuples.locate(segment, change.tid)? else {
+        return Ok(change.front_in(catalog, None));
+    };
+    Ok(change.front_in(catalog, Some(tuples.body(at))))
 }
 
 /// Puts the tuple of a segment as the change leaves it, where this stands before the values.

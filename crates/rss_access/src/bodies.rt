@@ -1,15 +1,16 @@
 // The bodies of tuples.
-ghost use Rattle.std.specs.Prelude.{◌≡◌, ℕ, true, is_some, None, Some, IfOk, IfSome, List, option_copied};
-ghost use Rattle.rss_base.specs.TupleTypes.{kinds};
-ghost use Rattle.rss_base.specs.Listings.{relation_at};
-ghost use Rattle.rss_base.specs.declared.relation.RelationEntry.{RelationEntry as Entry};
+ghost use Rattle.std.specs.Prelude.{◌≡◌, ◌≤◌, ℕ, None, All, IfOk, IfSome, List, option_copied};
+ghost use Rattle.rss_base.specs.TupleTypes.{kinds, chosen, key_width, most_key_width, Spells, SpellsSome};
 ghost use Rattle.rss_base.specs.declared.value.Value.{Value as FieldValue};
-ghost use Rattle.rss_access.specs.Bodies.{HoldsBytes, IsBodyOf};
+ghost use Rattle.rss_value.specs.Numbers.{IsNumberOf};
+ghost use Rattle.rss_entries.specs.Keyed.{kinds_of};
+ghost use Rattle.rss_access.specs.Bodies.{HoldsBytes, IsKeyIn, IsSpelledIn};
 
-use rss_base::Tuple;
+use rss_base::{FieldDef, Key, Tuple};
 use rss_catalog::Catalog;
+use rss_entries::KeyFields;
 use rss_members::prefix_len;
-use rss_value::decode;
+use rss_value::{decode, key as write_key, spells};
 use std::alloc::{AllocError, Global};
 
 /// The bytes of a tuple's values in a body of the relation of this number: behind the number and the
@@ -27,24 +28,52 @@ pub(crate) fn values_in<'a>(catalog: &Catalog, number: u8, body: &'a [u8]) -> Op
     rest.get(prefix_len(catalog, number)..)
 }
 
-/// The tuple that a body is of, where that is one of the relation of this number.
-pub fn tuple_of(
-    alloc: Global,
+/// The bytes of a tuple's values in a body, where that is one of the relation of this number, and
+/// values of these fields have them. It takes no memory.
+pub fn spelled_in<'a>(
     catalog: &Catalog,
     number: u8,
-    body: &[u8],
-) -> Result<Option<Tuple>, AllocError>
-    requires { is_some (relation_at catalog.now.listing number) ≡ true }
-    ensures some { (relation : Entry) → relation_at catalog.now.listing number ≡ Some relation
-        → IfOk result (λ tuple. IfSome tuple (λ values.
-        IsBodyOf catalog.now.listing number (kinds relation.fields) values body.now)) }
-    ensures exact { (relation : Entry) → relation_at catalog.now.listing number ≡ Some relation
-        → IfOk result (λ tuple. (values : List FieldValue)
-        → IsBodyOf catalog.now.listing number (kinds relation.fields) values body.now
-        → tuple ≡ Some values) }
+    fields: &[FieldDef],
+    body: &'a [u8],
+) -> Option<&'a [u8]>
+    ensures some { IfSome (option_copied result)
+        (IsSpelledIn catalog.now.listing number (kinds fields.now) body.entry.now) }
+    ensures none { result ≡ None → (bytes : List ℕ)
+        → IsSpelledIn catalog.now.listing number (kinds fields.now) body.entry.now bytes → ⊥ }
 {
-    let Some(values) = values_in(catalog, number, body) else {
-        return Ok(None);
-    };
-    decode(alloc, catalog.relation(number).fields.as_slice(), values)
+    let bytes = values_in(catalog, number, body)?;
+    if spells(fields, bytes) {
+        Some(bytes)
+    } else {
+        None
+    }
+}
+
+/// The tuple of the values that have these bytes. Its one error is want of memory.
+pub fn made_of(alloc: Global, fields: &[FieldDef], bytes: &[u8]) -> Result<Tuple, AllocError>
+    requires { SpellsSome (kinds fields.now) bytes.now }
+    ensures is { IfOk result (Spells (kinds fields.now) bytes.now) }
+    ensures only { IfOk result (λ tuple. (values : List FieldValue)
+        → Spells (kinds fields.now) bytes.now values → values ≡ tuple) }
+{
+    match decode(alloc, fields, bytes)? {
+        Some(tuple) => Ok(tuple),
+        None => unreachable!(),
+    }
+}
+
+/// The key that a body has in an image by these of its fields. None where it is that of no tuple of
+/// the relation of this number. It takes no memory.
+pub(crate) fn key_in(catalog: &Catalog, number: u8, key: KeyFields<'_>, body: &[u8]) -> Option<Key>
+    requires numbers { All (IsNumberOf key.fields.now) key.which.now }
+    requires narrow { key_width (chosen key.which.now (kinds key.fields.now)) ≤ most_key_width }
+    ensures some { IfSome result
+        (IsKeyIn catalog.now.listing number (kinds_of key.entry) body.now) }
+    ensures none { result ≡ None → (bytes : List ℕ)
+        → IsSpelledIn catalog.now.listing number (kinds key.entry.fields.now) body.now bytes → ⊥ }
+{
+    let bytes = spelled_in(catalog, number, key.fields, body)?;
+    let mut made = Key::new();
+    write_key(key.fields, key.which, bytes, &mut made);
+    Some(made)
 }

@@ -14,17 +14,16 @@ ghost use Rattle.rss_tuple.specs.Calls.{IsSegment};
 ghost use Rattle.rss_tuple.specs.Heaps.{AreHeaps};
 ghost use Rattle.rss_entries.specs.Keyed.{kinds_of};
 ghost use Rattle.rss_access.specs.Changes.{both};
-ghost use Rattle.rss_access.specs.Checking.{ShowsThem, ShowsNone, LooksAt, HasEntry, HasEntryOf, HasEntries};
+ghost use Rattle.rss_access.specs.Checking.{ShowsThem, ShowsNone, LooksAt, HasEntryOf, HasEntries};
 
-use crate::bodies::values_in;
+use crate::bodies::key_in;
 use crate::rooms::image_width;
 use crate::tuples::find;
-use rss_base::{Body, Key, PageFault, Pages, Place, Tid};
+use rss_base::{PageFault, Pages, Place, Tid};
 use rss_catalog::Catalog;
 use rss_entries::KeyFields;
 use rss_image::Image;
 use rss_tuple::{Store, Tuples};
-use rss_value::{key as write_key, spells};
 
 /// Checks an image: its pages are a tree, which has the entry of each tuple of its relation and no
 /// other; and where it is unique, no key twice. Answers how many pages it has; where it isn't so,
@@ -141,41 +140,11 @@ fn has_entry<P: Pages>(
     ensures did { (most : ℕ) × PagesCall no_page most most
         (P.view tuples.old.pages) (P.view tuples.new.pages) result }
 {
-    let mut body = Body::new();
-    if !find(tuples, image.segment, number, tid, &mut body)? {
+    let Some(at) = find(tuples, image.segment, number, tid)? else {
         return Ok(true);
-    }
-    match values_in(catalog, number, body.as_slice()) {
-        Some(bytes) => has_pair(&mut tuples.pages, image, key, tid, bytes),
+    };
+    match key_in(catalog, number, key, tuples.body(at)) {
+        Some(made) => image.has(&mut tuples.pages, &made, tid),
         None => Ok(false),
     }
-}
-
-/// Whether these bytes are those of values, and an image has the pair of their key.
-fn has_pair<P: Pages>(
-    pages: &mut P,
-    image: &Image,
-    key: KeyFields<'_>,
-    tid: Tid,
-    bytes: &[u8],
-) -> Result<bool, PageFault>
-    requires of { AreNodes (nodes_of image.now) }
-    requires low { 1 ≤ image.now.levels }
-    requires numbers { All (IsNumberOf key.fields.now) key.which.now }
-    requires width { image.now.width ≡ key_width (chosen key.which.now (kinds key.fields.now)) }
-    requires there { IsTold (P.view pages.old).disk
-        → ∥ HasImage image.now (P.view pages.old).held ∥₁ }
-    ensures has { IfOk result (λ has. has ≡ true → IsTold (P.view pages.old).disk
-        → HasEntry (kinds_of key.entry) tid bytes.entry.now image.now (P.view pages.old)) }
-    ensures lacks { IfOk result (λ has. has ≡ false → IsTold (P.view pages.old).disk
-        → HasEntry (kinds_of key.entry) tid bytes.entry.now image.now (P.view pages.old) → ⊥) }
-    ensures did { PagesCall no_page (image.now.levels + 1) (image.now.levels + 1)
-        (P.view pages.old) (P.view pages.new) result }
-{
-    if !spells(key.fields, bytes) {
-        return Ok(false);
-    }
-    let mut made = Key::new();
-    write_key(key.fields, key.which, bytes, &mut made);
-    image.has(pages, &made, tid)
 }

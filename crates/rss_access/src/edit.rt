@@ -1,7 +1,6 @@
 // A change of a tuple or of a chain, whose bytes are lent.
-ghost use Rattle.std.specs.Prelude.{◌≡◌, ◌≤◌, ◌+◌, ◌∷◌, ◌++◌, ℕ, List, Option, true, length, None, IfSome};
+ghost use Rattle.std.specs.Prelude.{◌≡◌, ◌≤◌, ◌+◌, ◌∷◌, ◌++◌, ℕ, List, true, length, None, IfSome, option_copied};
 ghost use Rattle.rss_base.specs.Prefixes.{prefix_size};
-ghost use Rattle.rss_tuple.specs.Finding.{IsFetched};
 ghost use Rattle.rss_tuple.specs.Heaps.{body_most};
 ghost use Rattle.rss_members.specs.Members.{blank_prefix};
 ghost use Rattle.rss_access.specs.Told.{ReverseMeans, MayBecome, MayCount, values_before, values_after, reversed, count_after};
@@ -109,21 +108,35 @@ impl<'a> TupleChange<'a> {
         }
     }
 
-    /// What stands in the tuple's body before the values, by whether there is a tuple, and its body.
-    /// None where the tuple isn't as the change finds it.
-    pub(crate) fn front_in(self, catalog: &Catalog, live: bool, body: &[u8]) -> Option<Body>
+    /// What stands before the values in the tuple's body, if there is a tuple. None where the tuple
+    /// isn't as the change finds it.
+    pub(crate) fn front_in(self, catalog: &Catalog, body: Option<&[u8]>) -> Option<Body>
         requires { 1 + prefix_size catalog.now.listing.links self.number ≤ body_most }
         ensures front { IfSome result (IsFront catalog.now.listing (told_by self.entry)) }
-        ensures some { IfSome result (λ front. (found : Option (List ℕ))
-            → IsFetched found live body.now → IsFound (told_by self.entry) found front) }
-        ensures none { result ≡ None → (found : Option (List ℕ)) → IsFetched found live body.now
-            → IsNotFound catalog.now.listing (told_by self.entry) found }
+        ensures some { IfSome result (IsFound (told_by self.entry) (option_copied body.entry)) }
+        ensures none { result ≡ None
+            → IsNotFound catalog.now.listing (told_by self.entry) (option_copied body.entry) }
+    {
+        let Some(bytes) = body else {
+            return self.front_of_new(catalog);
+        };
+        match self.edit {
+            Edit::Insert(_) => None,
+            Edit::Delete(values) => gone_front(catalog, self.number, bytes, values),
+            Edit::Update { from, to: _ } => kept_front(catalog, self.number, bytes, from),
+        }
+    }
+
+    /// The same where there is no tuple.
+    fn front_of_new(self, catalog: &Catalog) -> Option<Body>
+        requires { 1 + prefix_size catalog.now.listing.links self.number ≤ body_most }
+        ensures front { IfSome result (IsFront catalog.now.listing (told_by self.entry)) }
+        ensures some { IfSome result (IsFound (told_by self.entry) None) }
+        ensures none { result ≡ None
+            → IsNotFound catalog.now.listing (told_by self.entry) None }
     {
         match self.edit {
-            Edit::Insert(_) if live => None,
             Edit::Insert(_) => Some(blank_front(catalog, self.number)),
-            Edit::Delete(values) if live => gone_front(catalog, self.number, body, values),
-            Edit::Update { from, to: _ } if live => kept_front(catalog, self.number, body, from),
             Edit::Delete(_) | Edit::Update { .. } => None,
         }
     }

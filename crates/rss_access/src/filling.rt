@@ -1,25 +1,29 @@
 // The entries of all tuples of a relation, for an image that is made over them.
-ghost use Rattle.std.specs.Prelude.{◌≡◌, ◌≤◌, true, is_some, length, All, Err, Some, IfOk, IfSome, OnOk};
+ghost use Rattle.std.specs.Prelude.{◌≡◌, ◌<◌, ◌≤◌, ℕ, true, is_some, List, length, All, Err, Some, IfOk, IfErr, IfSome, OnOk, OnErr, IsErrOf};
 ghost use Rattle.rss_base.specs.DiskRule.{IsTold};
 ghost use Rattle.rss_base.specs.TupleTypes.{kinds, chosen, key_width, most_key_width};
 ghost use Rattle.rss_base.specs.Listings.{relation_at};
-ghost use Rattle.rss_base.specs.declared.fault.PageFault.TheVariants.{Damaged as PageDamaged};
+ghost use Rattle.rss_base.specs.declared.fault.PageFault.TheVariants.{Damaged as PageDamaged, NoMemory as PageNoMemory};
 ghost use Rattle.rss_base.specs.declared.place.Place.{Place as AnyPlace};
+ghost use Rattle.rss_base.specs.declared.place.Place.TheVariants.{Tuple as TuplePlace};
+ghost use Rattle.rss_base.specs.Sizes.{page_entries};
 ghost use Rattle.rss_base.specs.declared.relation.RelationEntry.{RelationEntry as Entry};
 ghost use Rattle.rss_value.specs.Numbers.{IsNumberOf};
 ghost use Rattle.rss_image.specs.Images.{pairs_most};
 ghost use Rattle.rss_tuple.specs.Heaps.{AreHeaps};
 ghost use Rattle.rss_entries.specs.Building.{AreRising};
+ghost use Rattle.rss_access.specs.Bodies.{IsKeyIn, IsSpelledIn};
 ghost use Rattle.rss_access.specs.Changes.{both};
 ghost use Rattle.rss_access.specs.Filling.{keys_by, IsEntryLong, AreEntries, HasNoTables, SearchesPages, FindsKey, IsMisspelled, entry_order, repeated_key};
 
-use crate::bodies::values_in;
+use crate::bodies::key_in;
 use crate::edit::TUPLES_MOST;
 use crate::tuples::find;
-use rss_base::{Body, Key, PAGE_ENTRIES, PageFault, Pages, Place, RelationEntry, Tid};
+use rss_base::{Key, PAGE_ENTRIES, PageFault, Pages, Place, RelationEntry, Tid};
 use rss_catalog::Catalog;
+use rss_entries::KeyFields;
 use rss_tuple::{Store, Tuples};
-use rss_value::{compare_keys, key as write_key, spells};
+use rss_value::compare_keys;
 use std::alloc::Global;
 use std::cmp::Ordering;
 
@@ -101,26 +105,50 @@ fn key_at<P: Pages>(
     ensures fault { (place : AnyPlace) → result ≡ Err (PageDamaged place)
         → IsTold (P.view tuples.old.pages).disk
         → IsMisspelled (both (P.view tuples.old.pages) catalog.now) number relation.now tid }
+    ensures memory { IsErrOf result PageNoMemory → ⊥ }
     ensures did { SearchesPages (P.view tuples.old.pages) (P.view tuples.new.pages) result }
 {
-    let mut body = Body::new();
-    if !find(tuples, relation.segment, number, tid, &mut body)? {
+    let Some(at) = find(tuples, relation.segment, number, tid)? else {
         return Ok(None);
-    }
+    };
+    let key = key_of(catalog, relation, number, which, tid, tuples.body(at))?;
+    Ok(Some(key))
+}
+
+/// The key of the tuple with this identifier, whose body this is. It takes no memory, and its one
+/// error is damage at the tuple, where the body is that of no tuple of the relation, or no page has
+/// such an entry.
+fn key_of(
+    catalog: &Catalog,
+    relation: &RelationEntry,
+    number: u8,
+    which: &[u8],
+    tid: Tid,
+    body: &[u8],
+) -> Result<Key, PageFault>
+    requires numbers { All (IsNumberOf relation.now.fields) which.now }
+    requires narrow { key_width (chosen which.now (kinds relation.now.fields)) ≤ most_key_width }
+    ensures is { IfOk result
+        (IsKeyIn catalog.now.listing number (keys_by relation.now which.now) body.now) }
+    ensures slot { OnOk result (tid.slot < page_entries) }
+    ensures damaged { IfErr result
+        (λ fault. fault ≡ PageDamaged (TuplePlace relation.now.segment tid)) }
+    ensures ill { OnErr result ((bytes : List ℕ)
+        → IsSpelledIn catalog.now.listing number (kinds relation.now.fields) body.now bytes
+        → tid.slot < page_entries → ⊥) }
+{
     let damaged = PageFault::Damaged(Place::Tuple(relation.segment, tid));
     if usize::from(tid.slot) >= PAGE_ENTRIES {
         return Err(damaged);
     }
-    let Some(bytes) = values_in(catalog, number, body.as_slice()) else {
-        return Err(damaged);
+    let key = KeyFields {
+        fields: relation.fields.as_slice(),
+        which,
     };
-    let fields = relation.fields.as_slice();
-    if !spells(fields, bytes) {
-        return Err(damaged);
+    match key_in(catalog, number, key, body) {
+        Some(made) => Ok(made),
+        None => Err(damaged),
     }
-    let mut key = Key::new();
-    write_key(fields, which, bytes, &mut key);
-    Ok(Some(key))
 }
 
 /// The order of entries in an image.

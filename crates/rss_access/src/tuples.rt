@@ -1,15 +1,16 @@
 // Tuples in their pages.
-ghost use Rattle.std.specs.Prelude.{◌≡◌, ℕ, ◌+◌, ◌*◌, ◌≤◌, length, None, Some, IsSome, IfOk, OnOk};
+ghost use Rattle.std.specs.Prelude.{◌≡◌, ℕ, ◌+◌, ◌*◌, ◌≤◌, length, None, Some, IsSome, IfOk, IfSome, OnOk};
 ghost use Rattle.rss_base.specs.DiskRule.{IsTold};
 ghost use Rattle.rss_base.specs.Steps.{PagesCall, no_page};
 ghost use Rattle.rss_tuple.specs.Calls.{IsSegment, MayPut, MayInsert};
 ghost use Rattle.rss_tuple.specs.TupleSteps.{tuples_in};
 ghost use Rattle.rss_tuple.specs.Checked.{pages_of};
 ghost use Rattle.rss_tuple.specs.Heaps.{AreHeaps};
-ghost use Rattle.rss_access.specs.Tuples.{body_at, CanChange, ChangesTuple, FindsBody, FindsNextBody};
+ghost use Rattle.rss_tuple.specs.Located.{IsInMemory};
+ghost use Rattle.rss_access.specs.Tuples.{body_at, CanChange, ChangesTuple, FindsBodyAt, FindsNextBodyAt};
 
-use rss_base::{Body, PageFault, Pages, Tid};
-use rss_tuple::{Store, Tuples};
+use rss_base::{PageFault, Pages, Tid};
+use rss_tuple::{BodyAt, Store, Tuples};
 
 /// Puts a tuple with this body at an identifier that none has.
 pub(crate) fn put_at<P: Pages>(
@@ -28,39 +29,46 @@ pub(crate) fn put_at<P: Pages>(
     tuples.insert_at(segment, tid, body)
 }
 
-/// Whether the tuple of a segment with this identifier is one of the relation of this number. If so,
-/// its body is put into `into`.
+/// Where the body of the tuple of a segment with this identifier stands, where that is one of the
+/// relation of this number.
 pub fn find<P: Pages>(
     tuples: &mut Store<P>,
     segment: u8,
     number: u8,
     tid: Tid,
-    into: &mut Body,
-) -> Result<bool, PageFault>
+) -> Result<Option<BodyAt>, PageFault>
     requires { IsTold (P.view tuples.old.pages).disk → AreHeaps (P.view tuples.old.pages) }
-    ensures finds { IfOk result (λ there. IsTold (P.view tuples.old.pages).disk
-        → FindsBody segment number tid (P.view tuples.old.pages) there into.new) }
+    ensures finds { IfOk result (λ found. IsTold (P.view tuples.old.pages).disk → FindsBodyAt
+        segment number tid (P.view tuples.old.pages) (P.view tuples.new.pages).held found) }
+    ensures there { IfOk result (λ found. IfSome found (IsInMemory (P.view tuples.new.pages))) }
     ensures heaps { OnOk result (IsTold (P.view tuples.old.pages).disk
         → AreHeaps (P.view tuples.new.pages)) }
     ensures did { PagesCall no_page 2 2 (P.view tuples.old.pages) (P.view tuples.new.pages) result }
 {
-    let live = tuples.fetch(segment, tid, into)?;
-    Ok(live && into.as_slice().first() == Some(&number))
+    let Some(at) = tuples.locate(segment, tid)? else {
+        return Ok(None);
+    };
+    if tuples.body(at).first() == Some(&number) {
+        Ok(Some(at))
+    } else {
+        Ok(None)
+    }
 }
 
 /// The least identifier behind this one, or the least of all, that a tuple of the relation of this
-/// number has in a segment. The tuple's body is put into `into`.
+/// number has in a segment, and where the tuple's body stands.
 pub fn find_next<P: Pages>(
     tuples: &mut Store<P>,
     segment: u8,
     number: u8,
     after: Option<Tid>,
-    into: &mut Body,
-) -> Result<Option<Tid>, PageFault>
+) -> Result<Option<(Tid, BodyAt)>, PageFault>
     requires segment { IsSegment segment }
     requires heaps { IsTold (P.view tuples.old.pages).disk → AreHeaps (P.view tuples.old.pages) }
-    ensures finds { IfOk result (λ found. IsTold (P.view tuples.old.pages).disk
-        → FindsNextBody segment number after (P.view tuples.old.pages) found into.new) }
+    ensures finds { IfOk result (λ found. IsTold (P.view tuples.old.pages).disk → FindsNextBodyAt
+        segment number after (P.view tuples.old.pages) (P.view tuples.new.pages).held found) }
+    ensures there { IfOk result (λ found.
+        IfSome found (λ next. IsInMemory (P.view tuples.new.pages) next.1)) }
     ensures heaps { OnOk result (IsTold (P.view tuples.old.pages).disk
         → AreHeaps (P.view tuples.new.pages)) }
     ensures did { (most : ℕ) × PagesCall no_page most most
@@ -68,8 +76,8 @@ pub fn find_next<P: Pages>(
 {
     let mut last = after;
     while let Some(tid) = tuples.next_live(segment, last)? {
-        if find(tuples, segment, number, tid, into)? {
-            return Ok(Some(tid));
+        if let Some(at) = find(tuples, segment, number, tid)? {
+            return Ok(Some((tid, at)));
         }
         last = Some(tid);
     }

@@ -3,7 +3,7 @@ use Rattle.std.proofs.Common.{◌≡◌, ◌⊎◌, inl, inr, ⊎_elim, ℕ, ◌
 use Rattle.std.specs.Prelude.{Result, IsErr}
 use Rattle.std.proofs.lemmas.Bool.{cases_lt}
 use Rattle.rss_base.specs.DiskRule.{Disk, Pages, Leaves, LeavesOnly, Places, IsAt, SameOff, TornIn, Passes, Continues, GoesOn, WritesIn}
-use Rattle.rss_base.specs.Devices.{DeviceView, OnlyReads, SameDevice, ReadsPages, WritesPages}
+use Rattle.rss_base.specs.Devices.{DeviceView, OnlyReads, SameDevice, ReadsPages, WritesPages, DrivenView, DrivesOut}
 use Rattle.rss_base.specs.Faults.{Rises}
 use Rattle.rss_base.specs.declared.fault.Failed.{Failed}
 
@@ -168,6 +168,24 @@ writes_among is writes = record {
   told = writes.told;
   kept = λ pages told. let kept = writes.kept pages told in record { after = kept.after; told = kept.told; same = changed_among is kept.same };
   moments = λ told. widened (writes.moments told) (λ image torn. record { before = torn.before; was = torn.was; same = changed_among is torn.same });
+}
+
+-- nothing is written, and no page is driven out
+pub drives_nothing : (view : DrivenView) → DrivesOut view view
+drives_nothing view = record {
+  only = writes_none view.disk;
+  still = λ q is. is;
+  later = omega arith;
+  few = λ low. omega arith;
+}
+
+-- pages are driven out by one call, and then by another
+pub drives_then : {old mid new : DrivenView} → DrivesOut old mid → DrivesOut mid new → DrivesOut old new
+drives_then one two = record {
+  only = writes_then one.only (writes_among one.still two.only);
+  still = λ q is. one.still q (two.still q is);
+  later = omega (arith, one.later, two.later);
+  few = λ low. omega (arith, one.few (omega (arith, low, two.later)), two.few low);
 }
 
 -- the page that is written is one of these

@@ -7,14 +7,14 @@ use Rattle.rss_base.specs.DiskRule.{IsTold}
 use Rattle.rss_base.specs.Paged.{AreAmong, Mapped, Held, HasPageCause, Backing, is_same, with_mapped, with_page, page_key, mapped_pages}
 use Rattle.rss_base.specs.Notes.{Noted, with_note}
 use Rattle.rss_base.specs.Devices.{OnlyReads}
-use Rattle.rss_base.specs.Steps.{PagesView, Keys, NoneChanged, AreInMemory, StaysIdle, no_page, only, pages_in, WritesPage, TakesPage, GivesPage, NotesPage, PassesOn, PagesStep, PagesCall, device_below}
+use Rattle.rss_base.specs.Steps.{PagesView, Keys, NoneChanged, AreInMemory, StaysIdle, no_page, only, pages_in, WritesPage, TakesPage, GivesPage, NotesPage, PassesOn, PagesStep, PagesCall, device_below, driven}
 use Rattle.rss_base.specs.declared.fault.PageFault.{PageFault}
 use Rattle.rss_base.specs.declared.fault.PageFault.TheVariants.{Device as DeviceFailed, Damaged, NoMemory}
 use Rattle.rss_base.specs.declared.key.PageKey.{PageKey}
 use Rattle.rss_base.specs.declared.key.Space.{Space}
 use Rattle.rss_base.proofs.Calls.{leaves_then, leaves_rests}
 use Rattle.rss_base.proofs.Keys.{is_same-itself, is_same-other}
-use Rattle.rss_base.proofs.Moments.{reads_none, reads_then, same_device, same_then}
+use Rattle.rss_base.proofs.Moments.{reads_none, reads_then, same_device, same_then, drives_nothing, drives_then}
 
 -- ---- what is passed on
 
@@ -28,6 +28,8 @@ passes_nothing view = record {
   asks_high = omega arith;
   writes_low = omega arith;
   writes_high = omega arith;
+  outs_high = omega arith;
+  drives = drives_nothing (driven view);
 }
 
 passes_then : {asks asks_then outs outs_then : ℕ} {old mid new : PagesView} → PassesOn asks outs old mid → PassesOn asks_then outs_then mid new → PassesOn (asks + asks_then) (outs + outs_then) old new
@@ -40,6 +42,8 @@ passes_then one two = record {
   asks_high = omega (arith, one.asks_high, two.asks_high);
   writes_low = omega (arith, one.writes_low, two.writes_low);
   writes_high = omega (arith, one.writes_high, two.writes_high);
+  outs_high = omega (arith, one.outs_high, two.outs_high);
+  drives = drives_then one.drives two.drives;
 }
 
 passes_within : {asks outs asks_now outs_now : ℕ} {old new : PagesView} → asks ≤ asks_now → outs ≤ outs_now → PassesOn asks outs old new → PassesOn asks_now outs_now old new
@@ -52,6 +56,8 @@ passes_within few_asks few_outs passes = record {
   asks_high = omega (arith, few_asks, passes.asks_high);
   writes_low = passes.writes_low;
   writes_high = omega (arith, few_outs, passes.writes_high);
+  outs_high = omega (arith, few_outs, passes.outs_high);
+  drives = passes.drives;
 }
 
 -- ---- steps

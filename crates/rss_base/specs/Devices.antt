@@ -1,7 +1,8 @@
 -- What there is to see of a device, and what a call on it passes on, whatever it does.
-use Rattle.std.specs.Prelude.{◌≡◌, ◌↔◌, ℕ, ◌+◌, ◌≤◌, Result, IsErr, IsErrOf}
+use Rattle.std.specs.Prelude.{◌≡◌, ◌↔◌, ℕ, ◌+◌, ◌*◌, ◌<◌, ◌≤◌, Result, IsErr, IsErrOf}
 use Rattle.rss_base.specs.DiskRule.{Disk, Pages, IsTold, Passes, Leaves, Places, WritesIn}
-use Rattle.rss_base.specs.Faults.{HasCause, Rises}
+use Rattle.rss_base.specs.Faults.{HasCause, Rises, count_limit}
+use Rattle.rss_base.specs.Runs.{run_pages}
 use Rattle.rss_base.specs.declared.fault.Failed.{Failed}
 use Rattle.rss_base.specs.declared.fault.OpenFault.{OpenFault}
 use Rattle.rss_base.specs.declared.fault.OpenFault.TheVariants.{Device as DeviceFailed}
@@ -51,3 +52,24 @@ pub record WritesPages {T : Type 0} (places : Places) (count : ℕ) (old new : D
   pub size : new.size ≡ old.size
   pub writes : new.writes ≤ old.writes + count
   pub cause : HasCause old.faults new.faults result
+
+-- ---- pages that are driven out of memory
+
+-- What there is to see of a device whose pages are kept in memory: what it tells, which of its pages
+-- are free, how many were written, and how many pages were driven out of memory. The counts go up to
+-- 2 ^ 64 - 1.
+pub record DrivenView : Type 1 where
+  pub disk : Disk
+  pub free : Places
+  pub writes : ℕ
+  pub outs : ℕ
+
+-- Free pages alone are written, and no more of them than a run for each page that is driven out. No
+-- other pages come to be free. Once the count of those driven out has come to its limit, nothing is
+-- said of how many are written.
+pub record DrivesOut (old new : DrivenView) : Type 0 where
+  pub only : WritesIn old.free old.disk new.disk
+  pub still : (q : ℕ) → new.free q → old.free q
+  pub later : old.outs ≤ new.outs
+  pub few : new.outs < count_limit
+      → new.writes + run_pages * old.outs ≤ old.writes + run_pages * new.outs

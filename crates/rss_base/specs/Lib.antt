@@ -1,8 +1,8 @@
 pub mod Faults
 pub mod Streams
 pub mod DiskRule
-pub mod Devices
 pub mod Runs
+pub mod Devices
 pub mod Sizes
 pub mod Layout
 pub mod PageMap

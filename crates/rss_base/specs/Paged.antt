@@ -1,7 +1,7 @@
 -- Pages by their keys, over a device of which a part is fixed.
-use Rattle.std.specs.Prelude.{◌≡◌, ◌↔◌, ℕ, ◌+◌, ◌<◌, ◌≤◌, Bool, true, false, ◌&&◌, ◌==◌, if◌then◌else◌, List, length, Contains, sum_by, count_by, Option, Some, Result, Err, IsErrOf}
+use Rattle.std.specs.Prelude.{◌≡◌, ◌↔◌, ℕ, ◌+◌, ◌<◌, ◌≤◌, Bool, true, false, ◌&&◌, ◌==◌, if◌then◌else◌, List, length, Contains, sum_by, count_by, Option, Some, None, Result, Err, IsErrOf}
 use Rattle.std.specs.List.{range_with_len}
-use Rattle.rss_base.specs.DiskRule.{Disk, Pages, page, IsTold, Passes}
+use Rattle.rss_base.specs.DiskRule.{Disk, Pages, Places, page, IsTold, Passes}
 use Rattle.rss_base.specs.Faults.{Rises}
 use Rattle.rss_base.specs.Sizes.{segments, system_pages}
 use Rattle.rss_base.specs.PageMap.{space_code}
@@ -88,6 +88,10 @@ WritesWaiting waiting others writes writes_now = (keys : List PageKey) → HasEa
 pub record Fixed : Type 0 where
   pub size : ℕ
   pub held_at : ℕ → Option (List ℕ)
+
+-- nothing is fixed of the page in this place
+abbrev pub IsUnfixed : Fixed → Places
+IsUnfixed fixed q = fixed.held_at q ≡ None
 
 -- the pages have what is fixed, and anything in the others
 pub record HasFixed (fixed : Fixed) (image : Pages) : Type 0 where

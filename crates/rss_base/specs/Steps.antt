@@ -1,13 +1,13 @@
 -- What there is to see of pages, and what a call on them passes on, whatever it does.
 use Rattle.std.specs.Prelude.{◌≡◌, ◌⊎◌, ℕ, ◌+◌, ◌*◌, ◌<◌, ◌≤◌, Bool, true, false, List, ◌++◌, length, take, drop, slice_range, Some, None, Result, Ok, Err, IsErrOf}
 use Rattle.rss_base.specs.DiskRule.{Disk, IsTold}
-use Rattle.rss_base.specs.Devices.{DeviceView, OnlyReads, SameDevice}
+use Rattle.rss_base.specs.Devices.{DeviceView, OnlyReads, SameDevice, DrivenView, DrivesOut}
 use Rattle.rss_base.specs.Sizes.{zero_page}
 use Rattle.rss_base.specs.Faults.{Rises}
 use Rattle.rss_base.specs.Runs.{run_pages}
 use Rattle.rss_base.specs.PageMap.{page_count}
 use Rattle.rss_base.specs.Notes.{Noted, with_note}
-use Rattle.rss_base.specs.Paged.{Mapped, Held, Fixed, Backing, AreAmong, LeavesFixed, page_key, with_mapped, with_page, mapped_pages}
+use Rattle.rss_base.specs.Paged.{Mapped, Held, Fixed, IsUnfixed, Backing, AreAmong, LeavesFixed, page_key, with_mapped, with_page, mapped_pages}
 use Rattle.rss_base.specs.declared.place.Place.{Place}
 use Rattle.rss_base.specs.declared.fault.PageFault.{PageFault}
 use Rattle.rss_base.specs.declared.fault.PageFault.TheVariants.{Device as DeviceFailed, Damaged, NoMemory}
@@ -22,6 +22,7 @@ use Rattle.rss_base.specs.declared.key.Space.{Space}
 -- in_memory: which of them can be lent.
 -- spare: how many more can be taken.
 -- asks, writes, faults: how many reads of a page there were, and on the device how many pages were written, and how many faults.
+-- outs: how many pages were driven out of memory.
 -- fixed, settled: what is fixed of the device's pages, and that none of this is on its way to the disk.
 -- backing: what the pages stand on.
 pub record PagesView : Type 1 where
@@ -36,6 +37,7 @@ pub record PagesView : Type 1 where
   pub asks : ℕ
   pub writes : ℕ
   pub faults : ℕ
+  pub outs : ℕ
   pub fixed : Fixed
   pub settled : Bool
   pub backing : Backing
@@ -51,6 +53,10 @@ NoneChanged view = (key : PageKey) → view.changed key ≡ false
 -- the device under the pages
 abbrev pub device_below : PagesView → DeviceView
 device_below view = record { disk = view.disk; size = view.fixed.size; writes = view.writes; faults = view.faults }
+
+-- The same, of which a page is free if nothing is fixed of it.
+abbrev pub driven : PagesView → DrivenView
+driven view = record { disk = view.disk; free = IsUnfixed view.fixed; writes = view.writes; outs = view.outs }
 
 -- each page that is mapped is in memory, and there is room for one more
 pub record AreInMemory (view : PagesView) : Type 0 where
@@ -127,8 +133,8 @@ pub record NotesPage (key : PageKey) (number : ℕ) (old new : PagesView) : Type
 
 -- ---- what each call passes on
 
--- Whatever was done: so many pages were asked for at most, and so many may have left memory, each of
--- which may take a run of pages along to the device.
+-- Whatever was done: so many pages were asked for at most, and so many were driven out of memory at
+-- most, each of which may take a run of pages along to the device.
 pub record PassesOn (asks outs : ℕ) (old new : PagesView) : Type 0 where
   pub slots : new.slots ≡ old.slots
   pub backing : new.backing ≡ old.backing
@@ -138,6 +144,8 @@ pub record PassesOn (asks outs : ℕ) (old new : PagesView) : Type 0 where
   pub asks_high : new.asks ≤ old.asks + asks
   pub writes_low : old.writes ≤ new.writes
   pub writes_high : new.writes ≤ old.writes + run_pages * outs
+  pub outs_high : new.outs ≤ old.outs + outs
+  pub drives : DrivesOut (driven old) (driven new)
 
 -- And no pages were touched but these. Where none was, nor changed before, the device was only read;
 -- and where none was and all were in memory, the device was asked for nothing, and none left memory.

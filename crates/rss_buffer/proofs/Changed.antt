@@ -1,18 +1,17 @@
 -- What changing one page does to a buffer: the page gets a slot or loses it, and its frame is changed with it.
-use Rattle.std.proofs.Common.{◌≡◌, ◌≢◌, ◌⊎◌, inl, inr, ℕ, ◌+◌, ◌*◌, ◌<◌, ◌≤◌, Bool, true, false, List, length, set, Option, Some, None, refl, sym, ◌∙◌, ap, subst, arith, length-set, get_or-set_same, get_or-set_other}
+use Rattle.std.proofs.Common.{◌≡◌, ◌≢◌, ◌⊎◌, inl, inr, ℕ, ◌+◌, ◌<◌, ◌≤◌, Bool, true, false, List, length, set, Option, Some, None, refl, sym, ◌∙◌, ap, subst, arith, length-set, get_or-set_same, get_or-set_other}
 use Rattle.std.specs.Prelude.{Result, is_some, is_none, option_map, unwrap_or}
 use Rattle.std.proofs.Math.Path.{fun_ext}
 use Rattle.std.proofs.lemmas.Bool.{cases_Bool, cond-true, cond-false}
 use Rattle.std.proofs.lemmas.Option.{same_Some}
-use Rattle.rss_base.specs.Devices.{OnlyReads}
+use Rattle.rss_base.specs.Devices.{OnlyReads, DrivesOut}
 use Rattle.rss_base.specs.DiskRule.{Pages, page, Told, IsTold}
 use Rattle.rss_base.specs.Layout.{slots_at}
 use Rattle.rss_base.specs.PageMap.{IsKey, IsTable, owner_of, page_count}
-use Rattle.rss_base.specs.Paged.{Mapped, Held, Fixed, LeavesFixed, is_same, with_mapped, with_page, page_key, mapped_pages, IsLeastUnmapped}
-use Rattle.rss_base.specs.Runs.{run_pages}
+use Rattle.rss_base.specs.Paged.{Mapped, Held, Fixed, IsUnfixed, LeavesFixed, is_same, with_mapped, with_page, page_key, mapped_pages, IsLeastUnmapped}
 use Rattle.rss_base.specs.Sizes.{zero_page}
 use Rattle.rss_base.specs.Notes.{is_noted_space, with_note}
-use Rattle.rss_base.specs.Steps.{NoneChanged, AreInMemory, StaysIdle, device_below, Keys, no_page, PassesOn, PagesStep, PagesCall, WritesPage, TakesPage, GivesPage}
+use Rattle.rss_base.specs.Steps.{NoneChanged, AreInMemory, StaysIdle, device_below, driven, Keys, no_page, PassesOn, PagesStep, PagesCall, WritesPage, TakesPage, GivesPage}
 use Rattle.rss_base.specs.declared.fault.PageFault.{PageFault}
 use Rattle.rss_base.specs.declared.key.Space.{Space}
 use Rattle.rss_base.specs.declared.key.Space.TheVariants.{Home, Overflow, Image, System}
@@ -26,17 +25,29 @@ use Rattle.rss_frames.specs.Frames.{Frame, FrameOf}
 use Rattle.rss_buffer.specs.declared.stage.Stage.TheVariants.{Changing}
 use Rattle.rss_buffer.specs.Slots.{held_in, held_by, fixed_by, told_pages}
 use Rattle.rss_base.specs.StoredPages.{slot_of, mapped_by}
-use Rattle.rss_buffer.specs.Buffered.{BufferView, AreFrames, StaysFixed, HaveSlots, AreNotesOf, IsBuffer, IsFilled, held_of, KeepsPages, MovesPages}
+use Rattle.rss_buffer.specs.Buffered.{BufferView, AreFrames, StaysFixed, HaveSlots, AreNotesOf, IsBuffer, IsFilled, held_of, KeepsPages, PutsOut, MovesPages}
 use Rattle.rss_buffer.specs.Saving.{changed_by}
 use Rattle.rss_buffer.specs.BufferLaws.{saveable_by}
 use Rattle.rss_buffer.specs.Views.{pages_view}
 use Rattle.rss_base.proofs.Counts.{mapped_pages-owners}
+use Rattle.rss_base.proofs.Moments.{writes_among}
 use Rattle.rss_base.proofs.Steps.{kept_all}
 use Rattle.rss_base.proofs.Keys.{is_same-true, is_same-itself, owner_of-slot_of, the_slot}
 use Rattle.rss_buffer.proofs.Lookups.{with_frame, with_frame-same, with_frame-other}
 use Rattle.rss_shadow.proofs.Owned.{mapped-owned, LacksPage-unmapped, mapped-has, mapped-lacks, slot_of-here, slot_of-others, mapped-changed}
+use Rattle.rss_buffer.proofs.Loose.{loose_unfixed, unfixed_loose, loose_same}
 use Rattle.rss_buffer.proofs.Turns.{with_frame-cases}
 use Rattle.rss_buffer.proofs.Waits.{none-among}
+
+-- ---- pages were driven out
+
+drives_kept : {old new : BufferView} {most : ℕ} → KeepsPages old new → PutsOut most old.outs old.device.writes new.outs new.device.writes → DrivesOut (driven (pages_view old)) (driven (pages_view new))
+drives_kept {old = old} {new = new} keeps puts = record {
+  only = writes_among (loose_unfixed old.first old.maps.shadow old.device.disk.contents) keeps.loose;
+  still = λ q is. loose_unfixed old.first old.maps.shadow old.device.disk.contents q (loose_same keeps.first (ap (λ (m : Maps). m.shadow) keeps.maps) q (unfixed_loose new.first new.maps.shadow new.device.disk.contents q is));
+  later = puts.later;
+  few = puts.each;
+}
 
 -- ---- one page has this slot now, or none
 
@@ -280,8 +291,8 @@ module _ {b : BufferView} {maps : Maps} {notes : NotesView} {frames : FrameOf} {
     fixed_same : fixed_by b.first maps.shadow b.device.disk.contents ≡ fixed_by b.first b.maps.shadow b.device.disk.contents
     fixed_same = ap (λ (shadow : Owners). fixed_by b.first shadow b.device.disk.contents) change.re.shadow
 
-    pub passes_on : {asks outs : ℕ} → b.device.writes ≤ old.device.writes + run_pages * outs → PassesOn asks outs (pages_view old) (pages_view after)
-    passes_on few = record {
+    pub passes_on : {asks outs : ℕ} → PutsOut outs old.outs old.device.writes b.outs b.device.writes → PassesOn asks outs (pages_view old) (pages_view after)
+    passes_on puts = record {
       slots = change.re.long ∙ ap (λ (m : Maps). length m.current) keeps.maps;
       backing = λ i. record { log_pages = keeps.log_pages i; area = keeps.area i; shadow = (change.re.shadow ∙ ap (λ (m : Maps). m.shadow) keeps.maps) i; frames = keeps.room i };
       leaves = subst (λ (f : Fixed). LeavesFixed (old.settled ≡ true) (b.settled ≡ true) old.device.disk b.device.disk (fixed_by old.first old.maps.shadow old.device.disk.contents) f) (sym fixed_same) keeps.leaves;
@@ -289,7 +300,9 @@ module _ {b : BufferView} {maps : Maps} {notes : NotesView} {frames : FrameOf} {
       asks_low = omega (arith, keeps.asks);
       asks_high = omega (arith, keeps.asks);
       writes_low = keeps.writes;
-      writes_high = few;
+      writes_high = puts.all;
+      outs_high = puts.few;
+      drives = subst (λ (f : Fixed). DrivesOut (driven (pages_view old)) (record { disk = b.device.disk; free = IsUnfixed f; writes = b.device.writes; outs = b.outs })) (sym fixed_same) (drives_kept keeps puts);
     }
 
     mapped_now : mapped_by maps.current ≡ with_mapped (mapped_by old.maps.current) key (is_some slot)
@@ -341,8 +354,8 @@ module _ {old b : BufferView} {maps : Maps} {notes : NotesView} {frames : FrameO
 
 -- ---- a call that changed no page
 
-pub keeps_on : {old new : BufferView} {asks outs : ℕ} → KeepsPages old new → new.device.writes ≤ old.device.writes + run_pages * outs → PassesOn asks outs (pages_view old) (pages_view new)
-keeps_on keeps few = record {
+pub keeps_on : {old new : BufferView} {asks outs : ℕ} → KeepsPages old new → PutsOut outs old.outs old.device.writes new.outs new.device.writes → PassesOn asks outs (pages_view old) (pages_view new)
+keeps_on keeps puts = record {
   slots = ap (λ (m : Maps). length m.current) keeps.maps;
   backing = λ i. record { log_pages = keeps.log_pages i; area = keeps.area i; shadow = ap (λ (m : Maps). m.shadow) keeps.maps i; frames = keeps.room i };
   leaves = keeps.leaves;
@@ -350,7 +363,9 @@ keeps_on keeps few = record {
   asks_low = omega (arith, keeps.asks);
   asks_high = omega (arith, keeps.asks);
   writes_low = keeps.writes;
-  writes_high = few;
+  writes_high = puts.all;
+  outs_high = puts.few;
+  drives = drives_kept keeps puts;
 }
 
 mapped_count : {view : BufferView} → IsBuffer view → mapped_pages (length view.maps.current) (mapped_by view.maps.current) ≡ page_count view.maps.current
@@ -363,13 +378,13 @@ looks {old = old} buffer keeps none =
     record { contents = reads.contents; moments = reads.moments; same_writes = reads.same_writes; later = reads.later }
 
 -- no page was touched, and as many are mapped as there may be in memory
-pub keeps_step : {old new : BufferView} {touched : Keys} {asks outs : ℕ} → IsBuffer old → IsFilled old → KeepsPages old new → new.device.writes ≤ old.device.writes + run_pages * outs → PagesStep touched asks outs (pages_view old) (pages_view new)
-keeps_step {old = old} buffer full keeps few = kept_all (keeps_on keeps few) (ap (λ (m : Maps). changed_by m) keeps.maps) (ap (λ (m : Maps). mapped_by m.current) keeps.maps) keeps.held (ap (λ (n : NotesView). n.notes) keeps.notes) (looks {asks = old.asks} buffer keeps) (λ are. absurd (omega (arith, full, are.room, mapped_count buffer)))
+pub keeps_step : {old new : BufferView} {touched : Keys} {asks outs : ℕ} → IsBuffer old → IsFilled old → KeepsPages old new → PutsOut outs old.outs old.device.writes new.outs new.device.writes → PagesStep touched asks outs (pages_view old) (pages_view new)
+keeps_step {old = old} buffer full keeps puts = kept_all (keeps_on keeps puts) (ap (λ (m : Maps). changed_by m) keeps.maps) (ap (λ (m : Maps). mapped_by m.current) keeps.maps) keeps.held (ap (λ (n : NotesView). n.notes) keeps.notes) (looks {asks = old.asks} buffer keeps) (λ are. absurd (omega (arith, full, are.room, mapped_count buffer)))
 
 -- the same of a page that was asked for
-pub asked_step : {old new : BufferView} {asks outs : ℕ} → IsBuffer old → KeepsPages (record old { asks = asks }) new → old.asks ≤ asks → asks ≤ old.asks + 1 → new.device.writes ≤ old.device.writes + run_pages * outs → (AreInMemory (pages_view old) → StaysIdle (pages_view old) (pages_view new)) → PagesStep no_page 1 outs (pages_view old) (pages_view new)
-asked_step buffer keeps low high few idle =
-    let on = keeps_on {asks = 0} keeps few in
+pub asked_step : {old new : BufferView} {asks outs : ℕ} → IsBuffer old → KeepsPages (record old { asks = asks }) new → old.asks ≤ asks → asks ≤ old.asks + 1 → PutsOut outs old.outs old.device.writes new.outs new.device.writes → (AreInMemory (pages_view old) → StaysIdle (pages_view old) (pages_view new)) → PagesStep no_page 1 outs (pages_view old) (pages_view new)
+asked_step buffer keeps low high puts idle =
+    let on = keeps_on {asks = 0} keeps puts in
     kept_all (record {
       slots = on.slots;
       backing = on.backing;
@@ -379,7 +394,9 @@ asked_step buffer keeps low high few idle =
       asks_high = omega (arith, high, keeps.asks);
       writes_low = on.writes_low;
       writes_high = on.writes_high;
+      outs_high = on.outs_high;
+      drives = on.drives;
     }) (ap (λ (m : Maps). changed_by m) keeps.maps) (ap (λ (m : Maps). mapped_by m.current) keeps.maps) keeps.held (ap (λ (n : NotesView). n.notes) keeps.notes) (looks buffer keeps) idle
 
 pub asked : {T : Type 0} {old new : BufferView} {asks : ℕ} {result : Result T PageFault} → IsBuffer old → MovesPages (record old { asks = asks }) new result → old.asks ≤ asks → asks ≤ old.asks + 1 → (AreInMemory (pages_view old) → StaysIdle (pages_view old) (pages_view new)) → PagesCall no_page 1 1 (pages_view old) (pages_view new) result
-asked buffer call low high idle = record { step = asked_step buffer call.keeps low high call.few idle; failed = call.cause.failed; sound = call.cause.sound; memory = call.cause.memory }
+asked buffer call low high idle = record { step = asked_step buffer call.keeps low high call.puts idle; failed = call.cause.failed; sound = call.cause.sound; memory = call.cause.memory }

@@ -1,15 +1,15 @@
 -- Data slots that the shadow map doesn't use, and what is fixed outside them.
-use Rattle.std.proofs.Common.{◌≡◌, inl, inr, ⊎_elim, ℕ, ◌+◌, ◌-◌, Bool, true, false, not, cond, List, Option, Some, None, sym, ◌∙◌, ap, subst, arith}
+use Rattle.std.proofs.Common.{◌≡◌, inl, inr, ⊎_elim, ℕ, ◌+◌, ◌-◌, Bool, true, false, not, cond, List, Option, Some, None, refl, sym, ◌∙◌, ap, subst, arith}
 use Rattle.std.specs.Prelude.{is_some}
 use Rattle.std.proofs.Math.Path.{fun_ext}
 use Rattle.std.proofs.lemmas.Option.{same_Some}
 use Rattle.std.proofs.lemmas.Bool.{cases_Bool, le-leb, and_from, cond-true}
 use Rattle.rss_base.specs.DiskRule.{Disk, Pages, page, Told, Leaves, SameOff, TornIn, Passes}
 use Rattle.rss_base.specs.PageMap.{owner_of}
-use Rattle.rss_base.specs.Paged.{Fixed, HasFixed, LeavesFixed}
+use Rattle.rss_base.specs.Paged.{Fixed, HasFixed, IsUnfixed, LeavesFixed}
 use Rattle.rss_base.specs.declared.key.PageKey.{PageKey}
 use Rattle.rss_base.proofs.Moments.{widened, now}
-use Rattle.rss_buffer.specs.Slots.{is_loose, fixed_by}
+use Rattle.rss_buffer.specs.Slots.{is_loose, fixed_by, told_pages}
 use Rattle.rss_buffer.specs.Buffered.{IsLoose, StaysFixed, WritesLoose}
 
 -- ---- which pages are loose
@@ -26,6 +26,23 @@ fixed_page first shadow pages q bytes is = by (is_loose first shadow q) is
     by : (loose : Bool) → cond loose None (Some (page pages q)) ≡ Some bytes → (loose ≡ true → ⊥) × (page pages q ≡ bytes)
     by true is = absurd (cc)
     by false is = (λ yes. cc, cc)
+
+-- nothing is fixed of a page that is loose
+pub loose_unfixed : (first : ℕ) (shadow : List (Option PageKey)) (contents : Option Pages) (q : ℕ) → IsLoose first shadow q → IsUnfixed (fixed_by first shadow contents) q
+loose_unfixed first shadow contents q is = cond-true _ _ _ is
+
+-- nor of any other
+pub unfixed_loose : (first : ℕ) (shadow : List (Option PageKey)) (contents : Option Pages) (q : ℕ) → IsUnfixed (fixed_by first shadow contents) q → IsLoose first shadow q
+unfixed_loose first shadow contents q is = by (is_loose first shadow q) is
+  where
+    by : (loose : Bool) → cond loose None (Some (page (told_pages contents) q)) ≡ None → loose ≡ true
+    by true is = refl
+    by false is = absurd (cc)
+
+-- the same slots are loose
+pub loose_same : {first first_now : ℕ} {shadow shadow_now : List (Option PageKey)} → first_now ≡ first → shadow_now ≡ shadow → (q : ℕ) → IsLoose first_now shadow_now q → IsLoose first shadow q
+loose_same {first = first} {shadow_now = shadow_now} same_first same_shadow q is =
+    subst (λ (owners : List (Option PageKey)). IsLoose first owners q) same_shadow (subst (λ (n : ℕ). IsLoose n shadow_now q) same_first is)
 
 module _ (first : ℕ) (shadow : List (Option PageKey)) where
   -- what is fixed stays where only loose pages are written

@@ -9,11 +9,12 @@ use Rattle.std.proofs.lemmas.Bool.{cases_Bool, cond-true, cond-false}
 use Rattle.std.proofs.lemmas.Option.{same_Some}
 use Rattle.rss_base.specs.Devices.{DeviceView, OnlyReads}
 use Rattle.rss_base.specs.DiskRule.{Disk, Pages, page, Told, IsTold}
+use Rattle.rss_base.specs.Faults.{counted}
 use Rattle.rss_base.specs.Runs.{run_pages}
 use Rattle.rss_base.specs.PageMap.{owner_of}
 use Rattle.rss_base.specs.Paged.{is_same, AreAmong, HasPageCause}
 use Rattle.rss_base.specs.declared.key.PageKey.{PageKey}
-use Rattle.rss_base.proofs.Moments.{only_stays, reads_none, reads_then, writes_none, writes_nothing, writes_then}
+use Rattle.rss_base.proofs.Moments.{only_stays, reads_none, reads_then, writes_none, writes_nothing, writes_then, writes_among}
 use Rattle.rss_notes.specs.Notes.{NotesView}
 use Rattle.rss_shadow.specs.Maps.{Maps}
 use Rattle.rss_frames.specs.Frames.{Frame, FrameOf}
@@ -21,13 +22,13 @@ use Rattle.rss_buffer.specs.Waiting.{waiting_in}
 use Rattle.rss_buffer.specs.declared.stage.Stage.{Stage}
 use Rattle.rss_buffer.specs.Slots.{held_in, held_by}
 use Rattle.rss_base.specs.StoredPages.{slot_of, mapped_by}
-use Rattle.rss_buffer.specs.Buffered.{BufferView, NoneChanged, AreFrames, AreClean, StaysFixed, IsAtStage, AreLaidOut, AreNotesOf, IsBuffer, held_of, WritesLoose, KeepsPages, MovesPages, WritesPages}
+use Rattle.rss_buffer.specs.Buffered.{BufferView, NoneChanged, AreFrames, AreClean, StaysFixed, IsAtStage, AreLaidOut, AreNotesOf, IsBuffer, held_of, WritesLoose, KeepsPages, PutsOut, MovesPages, WritesPages}
 use Rattle.rss_base.proofs.Calls.{leaves_then, leaves_rests}
 use Rattle.rss_base.proofs.Keys.{is_same-true, is_same-itself, owner_of-slot_of}
 use Rattle.rss_buffer.proofs.Lookups.{with_frame, with_frame-same}
 use Rattle.rss_shadow.proofs.Owned.{mapped-owned}
 use Rattle.rss_buffer.proofs.Waits.{waits-less, waits-alike, none-waits, none-among, settles-rests, settles-then, settles-count, settles-writes}
-use Rattle.rss_buffer.proofs.Loose.{StaysFixed-writes, LeavesFixed-writes}
+use Rattle.rss_buffer.proofs.Loose.{loose_same, StaysFixed-writes, LeavesFixed-writes}
 
 -- ---- what pages hold
 
@@ -82,6 +83,7 @@ KeepsPages-rests view = record {
   room = refl;
   held = λ told. refl;
   leaves = leaves_rests (view.settled ≡ true) view.device.disk _;
+  loose = writes_none view.device.disk;
   waiting = λ key is. is;
   unwritten = λ none. reads_none view.device;
   writes = omega arith;
@@ -101,6 +103,7 @@ KeepsPages-then {old = old} {mid = mid} one two = record {
   room = two.room ∙ one.room;
   held = λ told. two.held (one.leaves.told.0 told) ∙ one.held told;
   leaves = leaves_then one.leaves two.leaves;
+  loose = writes_then one.loose (writes_among (loose_same one.first (ap (λ (m : Maps). m.shadow) one.maps)) two.loose);
   waiting = λ key is. one.waiting key (two.waiting key is);
   unwritten = λ none. reads_then (one.unwritten none) (two.unwritten (none-among mid.frames one.waiting (none-waits old.frames none)));
   writes = omega (arith, one.writes, two.writes);
@@ -147,8 +150,8 @@ NoneChanged-removed frames key none = λ other f is. elim (with_frame-cases fram
 
 -- ---- a buffer
 
--- other notes, and what says nothing of its pages: the area of the selected root, and the count
-pub IsBuffer-beside : {b : BufferView} {notes : NotesView} {area asks : ℕ} → IsBuffer b → AreNotesOf b.maps.current notes → IsBuffer (record b { notes = notes; area = area; asks = asks })
+-- other notes, and what says nothing of its pages: the area of the selected root, and the counts
+pub IsBuffer-beside : {b : BufferView} {notes : NotesView} {area asks outs : ℕ} → IsBuffer b → AreNotesOf b.maps.current notes → IsBuffer (record b { notes = notes; area = area; asks = asks; outs = outs })
 IsBuffer-beside buffer noted = record {
   least = buffer.least;
   laid_out = buffer.laid_out;
@@ -195,6 +198,7 @@ module _ {b : BufferView} (buffer : IsBuffer b) where
       room = refl;
       held = held;
       leaves = LeavesFixed-writes b.first b.maps.shadow (b.settled ≡ true) b.device.disk device.disk loose buffer.fixed;
+      loose = loose;
       waiting = waiting;
       unwritten = unwritten;
       writes = more;
@@ -313,10 +317,6 @@ mapped_there {b = b} buffer key there = by (b.frames key) refl there
 
 -- ---- nothing is done
 
-loose_then : {old mid : BufferView} (disk : Disk) → KeepsPages old mid → WritesLoose old.first old.maps.shadow old.device.disk mid.device.disk → WritesLoose mid.first mid.maps.shadow mid.device.disk disk → WritesLoose old.first old.maps.shadow old.device.disk disk
-loose_then {old = old} {mid = mid} disk keeps before after =
-    writes_then before (subst (λ (n : ℕ). WritesLoose n old.maps.shadow mid.device.disk disk) keeps.first (subst (λ (m : Maps). WritesLoose mid.first m.shadow mid.device.disk disk) keeps.maps after))
-
 -- the maps and the frames are the same
 pub IsBuffer-same : {b : BufferView} {frames : FrameOf} → IsBuffer b → frames ≡ b.frames → IsBuffer (record b { frames = frames })
 IsBuffer-same {b = b} buffer now = subst (λ (f : FrameOf). IsBuffer (record b { frames = f })) (sym now) buffer
@@ -338,10 +338,43 @@ cause_fails {U = U} {disk = disk} {faults = faults} {faults_now = faults_now} {f
       memory = λ at. let same : fault ≡ NoMemory = cc in cause.memory (ap Err same);
     })
 
-pub MovesPages-keeps : {T : Type 0} {old new : BufferView} (value : T) → KeepsPages old new → new.device.writes ≤ old.device.writes + run_pages → MovesPages old new (Ok value)
-MovesPages-keeps value keeps few = record {
+-- none was driven out
+pub puts_none : {most outs writes : ℕ} → PutsOut most outs writes outs writes
+puts_none = record { later = omega arith; few = omega arith; each = λ low. omega arith; all = omega arith }
+
+-- one was
+pub puts_one : {outs writes outs_now writes_now : ℕ} → outs ≤ outs_now → outs_now ≡ counted outs → writes_now ≤ writes + run_pages → PutsOut 1 outs writes outs_now writes_now
+puts_one later now few = record { later = later; few = omega (arith, now); each = λ low. omega (arith, now, low, few); all = omega (arith, few) }
+
+-- and then nothing is written
+pub puts_still : {most outs writes outs_now writes_now writes_then : ℕ} → PutsOut most outs writes outs_now writes_now → writes_then ≡ writes_now → PutsOut most outs writes outs_now writes_then
+puts_still {most = most} {outs = outs} {writes = writes} {outs_now = outs_now} puts same = subst (λ (n : ℕ). PutsOut most outs writes outs_now n) (sym same) puts
+
+-- the pages are the same whatever the count is
+pub KeepsPages-driven : {old new : BufferView} {outs : ℕ} → KeepsPages (record old { outs = outs }) new → KeepsPages old new
+KeepsPages-driven keeps = record {
+  first = keeps.first;
+  maps = keeps.maps;
+  notes = keeps.notes;
+  settled = keeps.settled;
+  log_pages = keeps.log_pages;
+  area = keeps.area;
+  stage = keeps.stage;
+  asks = keeps.asks;
+  room = keeps.room;
+  held = keeps.held;
+  leaves = keeps.leaves;
+  loose = keeps.loose;
+  waiting = keeps.waiting;
+  unwritten = keeps.unwritten;
+  writes = keeps.writes;
+  later = keeps.later;
+}
+
+pub MovesPages-keeps : {T : Type 0} {old new : BufferView} (value : T) → KeepsPages old new → PutsOut 1 old.outs old.device.writes new.outs new.device.writes → MovesPages old new (Ok value)
+MovesPages-keeps value keeps puts = record {
   keeps = keeps;
-  few = few;
+  puts = puts;
   cause = record { later = keeps.later; failed = λ is. absurd (cc); sound = λ place is. absurd (cc); memory = λ is. absurd (cc) };
 }
 
@@ -349,19 +382,19 @@ MovesPages-keeps value keeps few = record {
 pub MovesPages-same : {T : Type 0} {b new : BufferView} {frames : FrameOf} {room : ℕ} {result : Result T PageFault} → frames ≡ b.frames → room ≡ b.room → MovesPages (record b { frames = frames; room = room }) new result → MovesPages b new result
 MovesPages-same {b = b} {frames = frames} now same moves = record {
   keeps = KeepsPages-then (subst (λ (n : ℕ). KeepsPages b (record b { frames = frames; room = n })) (sym same) (KeepsPages-same now)) moves.keeps;
-  few = moves.few;
+  puts = moves.puts;
   cause = moves.cause;
 }
 
 -- the error of a call is passed on
 pub MovesPages-fails : {T U : Type 0} {old new : BufferView} {fault : PageFault} (result : Result U PageFault) → IsErrAnd result (λ why. why ≡ fault) → MovesPages {T = T} old new (Err fault) → MovesPages old new result
-MovesPages-fails result is call = record { keeps = call.keeps; few = call.few; cause = cause_fails result is call.cause }
+MovesPages-fails result is call = record { keeps = call.keeps; puts = call.puts; cause = cause_fails result is call.cause }
 
 -- nothing is written
 pub WritesPages-none : {T : Type 0} {b : BufferView} {frames : FrameOf} (value : T) → frames ≡ b.frames → WritesPages b (record b { frames = frames }) (Ok value)
 WritesPages-none {b = b} value now = subst (λ (f : FrameOf). WritesPages b (record b { frames = f }) (Ok value)) (sym now) (record {
   keeps = KeepsPages-rests b;
-  loose = writes_none b.device.disk;
+  outs = refl;
   settles = settles-rests (waiting_in b.frames) b.device.writes;
   few = settles-count (settles-rests (waiting_in b.frames) b.device.writes);
   fault = tt;
@@ -371,14 +404,14 @@ WritesPages-none {b = b} value now = subst (λ (f : FrameOf). WritesPages b (rec
 pub WritesPages-then : {T : Type 0} {old mid new : BufferView} {result : Result T PageFault} → WritesPages {T = Unit {0}} old mid (Ok tt) → WritesPages mid new result → WritesPages old new result
 WritesPages-then {old = old} {mid = mid} {new = new} {result = result} one two = record {
   keeps = KeepsPages-then one.keeps two.keeps;
-  loose = loose_then new.device.disk one.keeps one.loose two.loose;
+  outs = two.outs ∙ one.outs;
   settles = on_ok_weaker result (λ settles. settles-then one.settles settles) two.settles;
   few = settles-writes one.settles two.few;
   fault = two.fault;
   cause = record {
     later = omega (arith, one.cause.later, two.cause.later);
     failed = λ is. let rose = two.cause.failed is in omega (arith, rose, one.cause.later);
-    sound = λ place is told. two.cause.sound place is (one.loose.told.0 told);
+    sound = λ place is told. two.cause.sound place is (one.keeps.loose.told.0 told);
     memory = two.cause.memory;
   };
 }
@@ -388,7 +421,7 @@ WritesPages-fails {U = U} {old = old} {new = new} {fault = fault} result is call
     let why = err_from_is_err_and result is in
     subst (λ (r : Result U PageFault). WritesPages old new r) (sym (why.1 ∙ ap Err why.2)) (record {
       keeps = call.keeps;
-      loose = call.loose;
+      outs = call.outs;
       settles = tt;
       few = call.few;
       fault = call.fault;

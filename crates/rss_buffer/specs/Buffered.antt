@@ -1,8 +1,8 @@
 -- What holds of a buffer between any two calls, and what each call within it passes on.
-use Rattle.std.specs.Prelude.{◌≡◌, ◌≢◌, ℕ, ◌+◌, ◌≤◌, Bool, true, false, List, length, Option, Some, None, Result, IfErr, OnOk}
+use Rattle.std.specs.Prelude.{◌≡◌, ◌≢◌, ℕ, ◌+◌, ◌*◌, ◌<◌, ◌≤◌, Bool, true, false, List, length, Option, Some, None, Result, IfErr, OnOk}
 use Rattle.rss_base.specs.Devices.{DeviceView, OnlyReads}
 use Rattle.rss_base.specs.DiskRule.{Disk, Pages, page, Told, IsTold, Leaves, LeavesOnly, WritesIn}
-use Rattle.rss_base.specs.Faults.{counted}
+use Rattle.rss_base.specs.Faults.{count_limit, counted}
 use Rattle.rss_base.specs.Runs.{run_pages}
 use Rattle.rss_base.specs.Layout.{map_at, slots_at}
 use Rattle.rss_base.specs.PageMap.{owner_of, page_count, IsTable, IsMap}
@@ -30,6 +30,7 @@ use Rattle.rss_buffer.specs.Slots.{held_by, is_loose, fixed_by}
 -- log_pages, area: how many log pages there are, and the map area that the selected root names.
 -- stage: how far the saving has come.
 -- asks: how many reads of a page there were.
+-- outs: how many pages were driven out of memory.
 -- room: how many pages there may be in memory at once.
 pub record BufferView : Type 1 where
   pub device : DeviceView
@@ -42,6 +43,7 @@ pub record BufferView : Type 1 where
   pub area : ℕ
   pub stage : Stage
   pub asks : ℕ
+  pub outs : ℕ
   pub room : ℕ
 
 -- what each page holds
@@ -133,7 +135,8 @@ abbrev pub WritesLoose : ℕ → List (Option PageKey) → Disk → Disk → Typ
 WritesLoose first shadow old new = WritesIn (IsLoose first shadow) old new
 
 -- Pages move between memory and their slots: the maps stay, what each page holds, what is noted, and
--- what is fixed. No more pages wait to be written, and where none waits nothing is written.
+-- what is fixed. No pages of the device are written that are fixed. No more pages wait to be written,
+-- and where none waits nothing is written.
 pub record KeepsPages (old new : BufferView) : Type 0 where
   pub first : new.first ≡ old.first
   pub maps : new.maps ≡ old.maps
@@ -148,6 +151,7 @@ pub record KeepsPages (old new : BufferView) : Type 0 where
   pub leaves : LeavesFixed (old.settled ≡ true) (new.settled ≡ true) old.device.disk new.device.disk
       (fixed_by old.first old.maps.shadow old.device.disk.contents)
       (fixed_by new.first new.maps.shadow new.device.disk.contents)
+  pub loose : WritesLoose old.first old.maps.shadow old.device.disk new.device.disk
   pub waiting : AreAmong (waiting_in new.frames) (waiting_in old.frames)
   pub unwritten : NoneChanged old.frames → OnlyReads old.device new.device
   pub writes : old.device.writes ≤ new.device.writes
@@ -157,16 +161,23 @@ pub record KeepsPages (old new : BufferView) : Type 0 where
 abbrev pub asked_for : BufferView → BufferView
 asked_for view = record view { asks = counted view.asks }
 
--- A call by which one page leaves memory at most, with a run of pages.
+-- So many pages were driven out of memory at most, and for each no more than a run of pages was written.
+pub record PutsOut (most outs writes outs_now writes_now : ℕ) : Type 0 where
+  pub later : outs ≤ outs_now
+  pub few : outs_now ≤ outs + most
+  pub each : outs_now < count_limit → writes_now + run_pages * outs ≤ writes + run_pages * outs_now
+  pub all : writes_now ≤ writes + run_pages * most
+
+-- A call by which one page is driven out of memory at most, with a run of pages.
 pub record MovesPages {T : Type 0} (old new : BufferView) (result : Result T PageFault) : Type 0 where
   pub keeps : KeepsPages old new
-  pub few : new.device.writes ≤ old.device.writes + run_pages
+  pub puts : PutsOut 1 old.outs old.device.writes new.outs new.device.writes
   pub cause : HasPageCause old.device.disk old.device.faults new.device.faults result
 
 -- A call that writes pages that wait to their slots, each of them once.
 pub record WritesPages {T : Type 0} (old new : BufferView) (result : Result T PageFault) : Type 0 where
   pub keeps : KeepsPages old new
-  pub loose : WritesLoose old.first old.maps.shadow old.device.disk new.device.disk
+  pub outs : new.outs ≡ old.outs
   pub settles : OnOk result (Settles (waiting_in old.frames) (waiting_in new.frames) old.device.writes new.device.writes)
   pub few : WritesWaiting (waiting_in old.frames) 0 old.device.writes new.device.writes
   pub fault : IfErr result (λ fault. fault ≡ DeviceFailed)

@@ -23,5 +23,6 @@ module _ {D : Type 0} {g : Ghosts D} where
     area = buffer.area;
     stage = buffer.stage;
     asks = buffer.asks;
+    outs = buffer.outs;
     room = room buffer.frames;
   }

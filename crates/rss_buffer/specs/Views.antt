@@ -22,6 +22,7 @@ pages_view view = record {
   asks = view.asks;
   writes = view.device.writes;
   faults = view.device.faults;
+  outs = view.outs;
   fixed = fixed_by view.first view.maps.shadow view.device.disk.contents;
   settled = view.settled;
   backing = record { log_pages = view.log_pages; area = view.area; shadow = view.maps.shadow; frames = view.room };

@@ -48,6 +48,8 @@ pub struct Buffer<D: Device> {
     /// No page but a data slot is on its way to the disk.
     pub(crate) settled: bool,
     pub(crate) asks: u64,
+    /// How many pages were driven out of memory, those counted that couldn't be written.
+    pub(crate) outs: u64,
     ghost saved_area: { (area : ℕ) → stage ≡ Saved area → area < 2 },
     ghost holds: { IsBuffer (record {
       device = D.view device;
@@ -60,6 +62,7 @@ pub struct Buffer<D: Device> {
       area = area;
       stage = stage;
       asks = asks;
+      outs = outs;
       room = room frames;
     }) } by { Prim.hlevel (props, IsSegmentOf-prop) },
 }
@@ -110,6 +113,7 @@ impl<D: Device> Buffer<D> {
             stage: Stage::Changing,
             settled: true,
             asks: 0,
+            outs: 0,
         })
     }
 }

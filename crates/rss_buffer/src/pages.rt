@@ -1,5 +1,6 @@
 // The pages of a buffer, one at a time.
 ghost use Rattle.std.specs.Prelude.{◌≡◌, ◌≢◌, ◌⊎◌, ◌+◌, ◌<◌, ◌≤◌, length, true, None, is_some, IsSome, OnOk, OnErr};
+ghost use Rattle.rss_base.specs.Faults.{counted};
 ghost use Rattle.rss_base.specs.StoredPages.{mapped_by};
 ghost use Rattle.rss_base.specs.declared.key.PageKey.{PageKey as Key};
 ghost use Rattle.rss_base.specs.Runs.{run_pages};
@@ -57,6 +58,7 @@ impl<D: Device> Buffer<D> {
         let Some((key, changed)) = self.frames.eldest() else {
             unreachable!()
         };
+        self.outs = one_more(self.outs);
         self.write_out(key, changed)?;
         self.frames.remove(key);
         Ok(())
@@ -106,7 +108,7 @@ impl<D: Device> Buffer<D> {
         ensures did { PagesCall no_page 1 1
             (pages_view (buffer_view self.old)) (pages_view (buffer_view self.new)) result }
     {
-        self.asks = self.asks.saturating_add(1);
+        self.asks = one_more(self.asks);
         self.bring(key)
     }
 
@@ -161,6 +163,14 @@ impl<D: Device> Buffer<D> {
         self.notes.forget(to);
         self.stage = Stage::Changing;
     }
+}
+
+/// One more, as far as a `u64` counts.
+fn one_more(count: u64) -> u64
+    ensures is { result ≡ counted count }
+    ensures more { count ≤ result }
+{
+    count.saturating_add(1)
 }
 
 impl<D: Device> Pages for Buffer<D> {

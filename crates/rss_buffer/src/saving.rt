@@ -258,6 +258,7 @@ impl<D: Device> Buffer<D> {
             stage: _,
             settled: _,
             asks: _,
+            outs: _,
         } = self;
         device
     }

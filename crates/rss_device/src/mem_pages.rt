@@ -112,6 +112,7 @@ impl Pages for MemPages {
       asks = m.reads;
       writes = 0;
       faults = 0;
+      outs = 0;
       fixed = none_fixed;
       settled = true;
       backing = no_backing (length m.places.items);

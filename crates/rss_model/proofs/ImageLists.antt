@@ -1,7 +1,7 @@
 -- The list of an image: it has each tuple, and where no pair repeats the key before it, no key is there twice.
 use Rattle.std.proofs.Common.{◌≡◌, ℕ, inl, ⊎_elim, Bool, true, false, List, [], ◌∷◌, refl, sym, ◌∙◌, ap, subst}
 use Rattle.std.specs.Prelude.{ℤ, pos, Option, Some, None, is_some, if◌then◌else◌, flat_map, ⊤, ◌&&◌, map as list_map}
-use Rattle.std.specs.Ordering.{nat_cmp, int_cmp, eq_by_cmp, is_eq, is_lt, ordering_then, ordering_reverse}
+use Rattle.std.specs.Ordering.{nat_cmp, int_cmp, eq_by_cmp, is_eq, is_lt, ordering_then}
 use Rattle.std.specs.Cmp.{IsTotalOrder, Equal-is, int_cmp_total, nat_cmp_total, on_total, then_total}
 use Rattle.std.specs.Cmp.Lexicographic.{slice_cmp, lists_total, nat_list_cmp_total}
 use Rattle.std.specs.FinMap as finite

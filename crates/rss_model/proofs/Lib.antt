@@ -64,5 +64,6 @@ pub mod DefinitionKeeping
 pub mod Changers
 pub mod BothRooms
 pub mod StepRooms
+pub mod GoingBack
 pub mod LogWay
 pub mod LogMeaning

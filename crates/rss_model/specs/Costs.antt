@@ -2,7 +2,7 @@
 use Rattle.std.specs.Prelude.{ℕ, ◌+◌, ◌*◌, ◌≤◌, Bool, true, false, Option, Some, None, IfSome}
 use Rattle.rss_base.specs.Runs.{run_pages}
 use Rattle.rss_base.specs.declared.call.Call.{Call}
-use Rattle.rss_base.specs.declared.call.Call.TheVariants.{Begin, Save, Restore, End, Abort, Fetch, OpenRelation, OpenImage, CloseScan, Lock, Checkpoint, MakeSegment, MakeRelation, DropSegment, DropRelation, DropImage, DropLink}
+use Rattle.rss_base.specs.declared.call.Call.TheVariants.{Begin, Save, Restore, End, Abort, Fetch, Parent, OpenRelation, OpenImage, OpenLink, Next, CloseScan, Lock, Checkpoint, MakeSegment, MakeRelation, MakeLink, DropSegment, DropRelation, DropImage, DropLink}
 
 -- a count has risen by no more than this, where a bound is claimed
 abbrev pub RisesAtMost : Option ℕ → ℕ → ℕ → Type 0
@@ -35,6 +35,23 @@ most_writes (CloseScan transaction scan) = Some 0
 most_writes (Lock transaction item exclusive) = Some 0
 most_writes call = None
 
+-- Whether a call may take a checkpoint. What begins, ends, undoes or looks takes none.
+abbrev pub may_save : Call → Bool
+may_save (Begin transaction) = false
+may_save (Save transaction) = false
+may_save (Restore transaction save) = false
+may_save (End transaction) = false
+may_save (Abort transaction) = false
+may_save (Fetch transaction relation tid) = false
+may_save (Parent transaction link child) = false
+may_save (OpenRelation transaction relation) = false
+may_save (OpenImage transaction image start) = false
+may_save (OpenLink transaction link parent) = false
+may_save (Next transaction scan) = false
+may_save (CloseScan transaction scan) = false
+may_save (Lock transaction item exclusive) = false
+may_save call = true
+
 -- Whether a call may be answered that memory ran out. What undoes, commits, saves or drops takes none.
 abbrev pub may_lack_memory : Call → Bool
 may_lack_memory (Restore transaction save) = false
@@ -43,6 +60,7 @@ may_lack_memory (Abort transaction) = false
 may_lack_memory (CloseScan transaction scan) = false
 may_lack_memory Checkpoint = false
 may_lack_memory (MakeSegment name) = false
+may_lack_memory (MakeLink name parent child) = false
 may_lack_memory (DropSegment name) = false
 may_lack_memory (DropRelation name) = false
 may_lack_memory (DropImage name) = false

@@ -30,6 +30,7 @@ pub mod Runs
 pub mod Commits
 pub mod Kept
 pub mod Ruled
+pub mod WaysBack
 pub mod Serial
 pub mod Records
 pub mod Restart

@@ -12,6 +12,7 @@ ghost use Rattle.rss_model.specs.Commits.{CommitsOnly, OpenLeavesNoTrace};
 ghost use Rattle.rss_model.specs.Kept.{SavingNeedsNoMore, StepsKeep, RestKeeps, StepsLeaveSize, KeptFit, EachFits, FirstFindsBase, LastLeavesNow, OwnersAreAlone, StepsKeepRoom};
 ghost use Rattle.rss_model.specs.Ruled.{RulingIsExact, RulingLetsThrough, MeterFollows, SavingFirstPasses, SavedGoesOn, ChangesKeepRooms, CheckpointsKeepRooms, CheckpointsPassAtRest, RestoresKeepRooms, AbortsKeepRooms, EndsKeepRooms, DefinitionsKeepRooms, StepsKeepRooms};
 ghost use Rattle.rss_model.specs.Ruled.{ChangesFitLog, WaysBackFitLog, EndsFitLog, CheckpointsFitLog};
+ghost use Rattle.rss_model.specs.WaysBack.{WaysBackSucceed, CheckpointsSucceed};
 ghost use Rattle.rss_model.specs.Locks.{JoinDisagrees};
 ghost use Rattle.rss_model.specs.Steps.{FreeIsFound};
 ghost use Rattle.rss_model.specs.Serial.{IsSerial};
@@ -119,6 +120,13 @@ pub fn records_fit()
     ensures back { WaysBackFitLog }
     ensures ends { EndsFitLog }
     ensures checkpoints { CheckpointsFitLog }
+{}
+
+/// An end, an abort and the way back to a save point succeed, if the transaction is open and has the
+/// save point. A checkpoint succeeds, or is refused for want of room in the log.
+pub fn ways_back_succeed()
+    ensures back { WaysBackSucceed }
+    ensures checkpoint { CheckpointsSucceed }
 {}
 
 /// A mode that was joined disagrees with what one of its parts disagrees with.

@@ -1,13 +1,16 @@
 -- Records that stand in a log.
 use Rattle.std.proofs.Common.{◌≡◌, ℕ, ◌+◌, ◌-◌, ◌<◌, ◌≤◌, List, [], ◌∷◌, ◌++◌, length, drop, append_assoc, append-nil, refl, sym, ◌∙◌, ap, subst, drop-drop, arith}
+use Rattle.std.specs.Prelude.{Result, Err, IfErr, IsErrAnd}
 use Rattle.std.proofs.lemmas.List.{drop_at, drop_all, map-append}
+use Rattle.std.proofs.lemmas.Result.{err_from_is_err_and}
+use Rattle.rss_base.specs.declared.fault.PageFault.{PageFault}
 use Rattle.rss_base.specs.declared.log_record.LogRecord.{LogRecord}
 use Rattle.rss_base.specs.LogRecords.{record_bytes, record_size, Placed, spelled, ArePlaced, BeginsWith}
 use Rattle.rss_record.proofs.Records.{one_front}
 use Rattle.rss_record.proofs.Parsing.{some_bytes, spelled-append, placed_append, placed_length, placed_split, parses_drop}
 use Rattle.rss_log.specs.Logs.{LogView, IsLog, piece_start, bytes_from, HasRecords}
 use Rattle.rss_restart.specs.declared.survey.walk.Placed.{Placed as PlacedEvent}
-use Rattle.rss_restart.specs.Reading.{Stand, Finds, Reads, event_at}
+use Rattle.rss_restart.specs.Reading.{Stand, Finds, Reads, IsBroken, none_begins, goes_beyond, IsReadFault, event_at}
 
 -- behind the bytes of a record
 behind : (log : LogView) (at : ℕ) (r : LogRecord) (rest : List ℕ) → log.head ≤ at → bytes_from log at ≡ record_bytes r ++ rest → bytes_from log (at + record_size r) ≡ rest
@@ -90,6 +93,17 @@ module _ (log : LogView) where
   none_from from at until events low le reads none ps stand =
       let more = ahead from at until reads.ps ps low le reads.stand stand in
       none more.0 more.1.1
+
+  -- what can't be read on is damage at a position of the log
+  module _ (at until : ℕ) (low : log.head ≤ at) (order : at ≤ until) (high : until ≤ log.end) where
+    log_fault : {fault : PageFault} → IsBroken log at until fault → IsReadFault log fault
+    log_fault (none_begins none) = record { at = at; low = low; high = omega (arith, order, high); is = refl }
+    log_fault (goes_beyond r rest begins beyond) = record { at = until; low = omega (arith, low, order); high = high; is = refl }
+
+    pub read_fault : {U : Type 0} {fault : PageFault} (result : Result U PageFault) → IsErrAnd result (λ why. why ≡ fault) → IsBroken log at until fault → IfErr result (IsReadFault log)
+    read_fault {U = U} result is broken =
+        let why = err_from_is_err_and result is in
+        subst (λ (r : Result U PageFault). IfErr r (IsReadFault log)) (sym (why.1 ∙ ap Err why.2)) (log_fault broken)
 
   -- the records of a log, up to a position and from there on
   module _ (xs ys : List Placed) (mid : ℕ) (is : IsLog log) (has : HasRecords log (xs ++ ys)) (placed : ArePlaced log.head xs mid) where

@@ -1,9 +1,10 @@
 -- The records that are read from a log, from one position up to another.
-use Rattle.std.specs.Prelude.{◌≡◌, ℕ, ◌+◌, List, ◌++◌, map}
+use Rattle.std.specs.Prelude.{◌≡◌, ℕ, ◌+◌, ◌<◌, List, ◌++◌, map}
 use Rattle.rss_base.specs.declared.fault.PageFault.{PageFault}
 use Rattle.rss_base.specs.declared.fault.PageFault.TheVariants.{Device, Damaged, NoMemory}
 use Rattle.rss_base.specs.declared.log_record.LogRecord.{LogRecord}
 use Rattle.rss_base.specs.declared.log_record.LogRecord.TheVariants as records
+use Rattle.rss_base.specs.declared.place.Place.TheVariants.{Log as LogPlace}
 use Rattle.rss_base.specs.LogRecords.{Placed, spelled, record_size, ArePlaced, BeginsWith}
 use Rattle.rss_log.specs.Logs.{LogView, bytes_from}
 use Rattle.rss_restart.specs.Surveys.{IsLogPlace}
@@ -39,6 +40,13 @@ pub record Finds (log : LogView) (at next : ℕ) (event : PlacedEvent) : Type 0 
   pub begins : BeginsWith (bytes_from log at) r (bytes_from log next)
   pub behind : next ≡ at + record_size r
   pub is : event ≡ event_at (record { at = at; is = r })
+
+-- Records can't be read on from a position up to another: damage there, where none begins, and at the other one, where one goes beyond it.
+pub data IsBroken (log : LogView) (at until : ℕ) : PageFault → Type 0 where
+  none_begins : ((r : LogRecord) (rest : List ℕ) → BeginsWith (bytes_from log at) r rest → ⊥)
+      → IsBroken log at until (Damaged (LogPlace at))
+  goes_beyond : (r : LogRecord) (rest : List ℕ) → BeginsWith (bytes_from log at) r rest
+      → until < at + record_size r → IsBroken log at until (Damaged (LogPlace until))
 
 -- damage at a position of the log, or want of memory
 abbrev pub IsReadFault : LogView → PageFault → Type 0

@@ -1,6 +1,7 @@
 -- A change of a tuple: what comes of it, and how a call ends of which it is the last step.
-use Rattle.std.proofs.Common.{◌≡◌, inl, ℕ, ◌+◌, ◌≤◌, Bool, false, Option, Some, None, arith, refl, sym, ◌∙◌, ap, subst}
-use Rattle.std.specs.Prelude.{Result, Ok, Err, IsErrAnd, ⊤}
+use Rattle.std.proofs.Common.{◌≡◌, inl, ⊎_elim, ℕ, ◌+◌, Bool, true, false, Option, Some, None, arith, refl, sym, ◌∙◌, ap, subst}
+use Rattle.std.specs.Prelude.{Result, Ok, Err, IsOk, IsErrAnd, ⊤}
+use Rattle.std.proofs.lemmas.Bool.{true≢false}
 use Rattle.std.proofs.lemmas.Option.{same_Some}
 use Rattle.std.proofs.lemmas.Result.{err_from_is_err_and}
 use Rattle.rss_base.specs.DiskRule.{IsTold, Passes}
@@ -17,10 +18,11 @@ use Rattle.rss_base.specs.declared.fault.PageFault.TheVariants.{Device as PageDe
 use Rattle.rss_base.specs.declared.log_record.LogRecord.TheVariants as records
 use Rattle.rss_base.specs.declared.place.Place.{Place}
 use Rattle.rss_base.specs.declared.refusal.Refusal.{Refusal}
+use Rattle.rss_base.specs.declared.root.Root.{Root}
 use Rattle.rss_base.proofs.Moments.{started, then, widened, rises_since}
 use Rattle.rss_stored.specs.Calls.{GoesOn, GetsPlace, IsOutcome, IsCallOf}
 use Rattle.rss_model.specs.Changes.{Change}
-use Rattle.rss_model.specs.Costs.{RisesAtMost}
+use Rattle.rss_model.specs.Costs.{RisesAtMost, may_save}
 use Rattle.rss_stored.specs.LogLaws.{IsToldBy}
 use Rattle.rss_model.specs.Locks.{Locks}
 use Rattle.rss_model.specs.Machine.{State}
@@ -38,7 +40,7 @@ use Rattle.rss_store.specs.Shown.{HoldsTables}
 use Rattle.rss_store.specs.Stores.{StoreView}
 use Rattle.rss_catalog.specs.Catalogs.{CatalogView}
 use Rattle.rss_session.specs.Calls.{KeepsTables, Makes, MayNotMake, NoMoreSaves}
-use Rattle.rss_session.specs.Calls.{GoesOn as SessionGoesOn}
+use Rattle.rss_session.specs.Calls.{GoesOnIf, TakesNoCheckpoint, ChecksOn}
 use Rattle.rss_session.specs.Looks.{LooksOn}
 use Rattle.rss_session.specs.Parts.{view as session_view}
 use Rattle.rss_session.specs.Sessions.{SessionView}
@@ -46,7 +48,7 @@ use Rattle.rss_session.specs.declared.session.Session.{Session}
 use Rattle.rss_session.specs.Changes.{relation_told}
 use Rattle.rss_session.specs.Weighing.{outcome, RulesSo}
 use Rattle.rss_session.proofs.Changed.{numbered_told}
-use Rattle.rss_session.proofs.Passing.{goes_then, goes_still, goes_opened}
+use Rattle.rss_session.proofs.Passing.{goes_if, goes_then, goes_still, goes_opened}
 use Rattle.rss_rsi.specs.Changing.{RulesSay, StillShows, ChangeEnds, IsChangeOf}
 use Rattle.rss_rsi.specs.Placing.{MayCost}
 use Rattle.rss_rsi.specs.Views.{RssParts, IsIn, engine_view}
@@ -76,11 +78,11 @@ rules_say {view = view} {t = t} {told_change = told_change} {result = result} ru
 -- ---- what comes of a change
 
 -- nothing was done
-goes_nothing : (session : SessionView) → SessionGoesOn {T = ⊤} session session (Ok tt)
+goes_nothing : {still : Type 0} (session : SessionView) → GoesOnIf {T = ⊤} still session session (Ok tt)
 goes_nothing session = goes_opened {opened = session.opened} tt (λ t. omega arith)
 
 -- whatever came of it
-pub goes_anyhow : {T : Type 0} {old new : SessionView} {made : Result T PageFault} → SessionGoesOn old new made → SessionGoesOn {T = ⊤} old new (Ok tt)
+pub goes_anyhow : {T : Type 0} {still : Type 0} {old new : SessionView} {made : Result T PageFault} → GoesOnIf still old new made → GoesOnIf {T = ⊤} still old new (Ok tt)
 goes_anyhow on = goes_still tt on refl refl (λ t. omega arith)
 
 pub change_refused : {T : Type 0} {session : SessionView} {up : Type 0} {t : ℕ} {told_change : told.Change} {why : Refusal} (result : Result T CallError) → IsErrAnd result (λ e. e ≡ Refused why) → up
@@ -102,7 +104,7 @@ change_lacks {old = old} {mid = mid} same still saves is_up = record {
 }
 
 -- behind memory that was taken, by which nothing of the store has changed
-module _ {old mid new : SessionView} (same : mid.store ≡ old.store) (still : StillShows old mid) (saves : NoMoreSaves old mid) {T : Type 0} {made : Result T PageFault} (on : SessionGoesOn mid new made) where
+module _ {old mid new : SessionView} (same : mid.store ≡ old.store) (still : StillShows old mid) (saves : NoMoreSaves old mid) {T : Type 0} {made : Result T PageFault} (on : ChecksOn mid new made) where
   told_mid : IsTold old.store.pages.disk → IsTold mid.store.pages.disk
   told_mid told = subst (λ (s : StoreView). IsTold s.pages.disk) (sym same) told
 
@@ -113,12 +115,12 @@ module _ {old mid new : SessionView} (same : mid.store ≡ old.store) (still : S
   keeps_mid keeps told state kept shows =
       subst (λ (s : StoreView). Passes s.pages.disk new.store.pages.disk (HoldsTables state.size state.base)) same (keeps (told_mid told) state kept (still state shows))
 
-  goes_mid : SessionGoesOn old new made
+  goes_mid : GoesOnIf (TakesNoCheckpoint mid new made) old new made
   goes_mid = goes_then (goes_still {U = ⊤} tt (goes_nothing old) (ap (λ (s : StoreView). s.pages) same) (ap (λ (s : StoreView). s.root) same) saves) on
 
-  pub change_made : {U : Type 0} {up : Type 0} {t : ℕ} {told_change : told.Change} {saves_first : Bool} (done : U) → up → RulesSo old t (relation_told told_change) (record_size (records.Change t told_change)) (Ok saves_first)
+  pub change_made : {U : Type 0} {up : Type 0} {t : ℕ} {told_change : told.Change} {saves_first : Bool} (done : U) → up → IsOk made → RulesSo old t (relation_told told_change) (record_size (records.Change t told_change)) (Ok saves_first)
       → (IsTold mid.store.pages.disk → Makes mid new t told_change) → KeepsTables mid new → IsChangeOf old new up t told_change (Ok done)
-  change_made done is_up rules makes keeps = record {
+  change_made done is_up is_ok rules makes keeps = record {
     ends = (
       is_up,
       record {
@@ -127,7 +129,7 @@ module _ {old mid new : SessionView} (same : mid.store ≡ old.store) (still : S
       },
     );
     moments = keeps_mid keeps;
-    goes = goes_anyhow goes_mid;
+    goes = goes_if {still = TakesNoCheckpoint mid new made} (λ still. (is_ok, still.1 ∙ sym (ap (λ (s : StoreView). s.root.checkpoint) same))) (goes_anyhow goes_mid);
   }
 
   pub change_failed : {U : Type 0} {up : Type 0} {t : ℕ} {told_change : told.Change} {saves_first : Bool} {fault : PageFault} (result : Result U CallError) → IsErrAnd result (λ e. e ≡ page_error fault) → made ≡ Err fault → (up → ⊥)
@@ -135,7 +137,7 @@ module _ {old mid new : SessionView} (same : mid.store ≡ old.store) (still : S
       → ((place : Place) → made ≡ Err (PageDamaged place) → IsTold mid.store.pages.disk → MayNotMake mid t told_change) → KeepsTables mid new → IsChangeOf old new up t told_change result
   change_failed {U = U} {up = up} {t = t} {told_change = told_change} {fault = fault} result is was down rules sound keeps =
       let so = err_from_is_err_and result is in
-      subst (IsChangeOf old new up t told_change) (sym (so.1 ∙ ap Err so.2)) (record { ends = by fault was; moments = keeps_mid keeps; goes = goes_anyhow goes_mid })
+      subst (IsChangeOf old new up t told_change) (sym (so.1 ∙ ap Err so.2)) (record { ends = by fault was; moments = keeps_mid keeps; goes = goes_if (λ still. absurd (down still.0)) (goes_anyhow goes_mid) })
     where
       by : (fault : PageFault) → made ≡ Err fault → ChangeEnds {T = U} old new up t told_change (Err (page_error fault))
       by PageDevice was = (down, goes_mid.failed was)
@@ -173,11 +175,12 @@ pub record IsLast (session : SessionView) (after : Locks) (t : ℕ) (told_change
   pub may : if_no_room state change ≡ None → MayMake session.store state told_change change
   pub steps : if_no_room state change ≡ None → (over : ℕ) → IsOver state change over → Step state call (Ok reply) (record (ruled change over state) { locks = after })
 
--- What is known of a call that looks first, and then makes a change: of no such call it is said what it may cost.
+-- What is known of a call that looks first, and then makes a change: of no such call it is said what it may cost, and each may take a checkpoint.
 pub record EndsByChange (parts : RssParts) (after : Locks) (t : ℕ) (told_change : told.Change) (call : Call) (reply : Reply) : Type 0 where
   pub last : IsTold parts.session.store.pages.disk → (state : State) → IsIn parts state → IsLast parts.session after t told_change call reply state
   pub short : IsShort (Ok reply)
   pub may : MayCost call
+  pub saves : may_save call ≡ true
 
 module _ {first : RssParts} {mid : SessionView} {after : Locks} {t : ℕ} {told_change : told.Change} {call : Call} {reply : Reply} {T : Type 0} {looked : Result T PageFault} (looks : LooksOn first.session mid looked) (by_change : EndsByChange first after t told_change call reply) where
   -- what the record tells hangs on the listing alone
@@ -194,10 +197,11 @@ module _ {first : RssParts} {mid : SessionView} {after : Locks} {t : ℕ} {told_
       say (looks.goes.told.0 told) state last.change last.by (is_told_looked last.is_told) (looks.shows told state is_in.shows)
 
   module _ (new : RssParts) {U : Type 0} {up_now : Type 0} {made : Result U CallError} (change : IsChangeOf mid new.session up_now t told_change made) where
-    goes_all : {n m : ℕ} {up : Type 0} → m ≤ n + 1 → GoesOn (engine_view first n up) (engine_view new m up_now) call
-    goes_all calls = goes_bounded (Ok tt) (lacks_no_end call by_change.may.stop.memory) (goes_then looks.goes change.goes) calls
+    goes_all : {n m : ℕ} {up : Type 0} → m ≡ n + 1 → GoesOn (engine_view first n up) (engine_view new m up_now) call
+    goes_all calls = goes_bounded (Ok tt) (lacks_no_end call by_change.may.stop.memory) (goes_then (goes_if (λ still. tt) looks.goes) change.goes) calls
         (subst (λ (most : Option ℕ). RisesAtMost most first.session.store.pages.asks new.session.store.pages.asks) (sym by_change.may.asks) tt)
         (subst (λ (most : Option ℕ). RisesAtMost most first.session.store.pages.writes new.session.store.pages.writes) (sym by_change.may.writes) tt)
+        (λ none. ⊎_elim (λ never. absurd (true≢false (sym by_change.saves ∙ never))) (λ so. (so.0, so.1 ∙ sym (ap (λ (r : Root). r.checkpoint) (looks.goes.unsaved tt).root))) none)
 
     keeps_all : KeepsTables first.session new.session
     keeps_all told state kept shows =
@@ -224,11 +228,11 @@ module _ {first : RssParts} {mid : SessionView} {after : Locks} {t : ℕ} {told_
           moments = widened (keeps_all new change told state is_in.kept is_in.shows) (λ image opens. inl opens);
         }
 
-    pub ends_made : {n m : ℕ} {up : Type 0} {done : U} → new.locks.locks ≡ after → new.scans ≡ first.scans → up → m ≤ n + 1 → (IsTold first.session.store.pages.disk → (state : State) → IsIn first state → GetsPlace (engine_view first n up) state call (Ok reply)) → IsChangeOf mid new.session up_now t told_change (Ok done)
+    pub ends_made : {n m : ℕ} {up : Type 0} {done : U} → new.locks.locks ≡ after → new.scans ≡ first.scans → up → m ≡ n + 1 → (IsTold first.session.store.pages.disk → (state : State) → IsIn first state → GetsPlace (engine_view first n up) state call (Ok reply)) → IsChangeOf mid new.session up_now t told_change (Ok done)
         → IsCallOf (engine_view first n up) (engine_view new m up_now) call (Ok reply)
     ends_made locked scans was_up calls placed change = comes_to was_up (goes_all new change calls) (answers change.ends.0 by_change.short placed (leads_made locked scans change))
 
-    pub ends_short : {n m : ℕ} {up : Type 0} {why : CallError} (result : Result Reply CallError) → IsErrAnd result (λ e. e ≡ why) → SameHeld first new → up → m ≤ n + 1 → IsChangeOf {T = U} mid new.session up_now t told_change (Err why)
+    pub ends_short : {n m : ℕ} {up : Type 0} {why : CallError} (result : Result Reply CallError) → IsErrAnd result (λ e. e ≡ why) → SameHeld first new → up → m ≡ n + 1 → IsChangeOf {T = U} mid new.session up_now t told_change (Err why)
         → IsCallOf (engine_view first n up) (engine_view new m up_now) call result
     ends_short {n = n} {m = m} {up = up} {why = why} result is held was_up calls change =
         let so = err_from_is_err_and result is in

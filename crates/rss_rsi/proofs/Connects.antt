@@ -99,7 +99,7 @@ module _ (parts : RssParts) (t : ℕ) (link : Name) (number : ℕ) (known : IsNu
           }
 
     pub connect_ends : EndsByChange parts (granted t list parts.locks.locks) t (ConnectRecord number parent child left) (Connect t link child parent spot) Done
-    connect_ends = record { last = connect_last; short = omega arith; may = (connect_linked t link child parent spot).may }
+    connect_ends = record { last = connect_last; short = omega arith; may = (connect_linked t link child parent spot).may; saves = refl }
 
   -- ---- it goes out of one
 
@@ -155,7 +155,7 @@ module _ (parts : RssParts) (t : ℕ) (link : Name) (number : ℕ) (known : IsNu
           }
 
       pub disconnect_ends : EndsByChange parts (granted t list parts.locks.locks) t (DisconnectRecord number place.parent child place.left) (Disconnect t link child) Done
-      disconnect_ends = record { last = disconnect_last; short = omega arith; may = (disconnect_linked t link child).may }
+      disconnect_ends = record { last = disconnect_last; short = omega arith; may = (disconnect_linked t link child).may; saves = refl }
 
   -- where it stands, and the list of the call that takes it out
 

@@ -1,6 +1,6 @@
 -- The ways in which a call that defines ends.
-use Rattle.std.proofs.Common.{◌≡◌, ℕ, ◌+◌, ◌<◌, Bool, false, refl, sym, ◌∙◌, ap, subst, arith}
-use Rattle.std.specs.Prelude.{Option, Some, None, is_some, Result, Ok, Err, IsErrAnd}
+use Rattle.std.proofs.Common.{◌≡◌, ℕ, ◌+◌, ◌<◌, Bool, true, false, refl, sym, ◌∙◌, ap, subst, arith}
+use Rattle.std.specs.Prelude.{Option, Some, None, is_some, Result, Ok, Err, IsOk, IsErrAnd}
 use Rattle.std.specs.FinMap.{FinMap, contains_key, empty, get, get-empty}
 use Rattle.std.specs.Ordering.{nat_cmp}
 use Rattle.std.proofs.lemmas.Bool.{true≢false}
@@ -18,8 +18,9 @@ use Rattle.rss_base.specs.declared.fault.PageFault.{PageFault}
 use Rattle.rss_base.specs.declared.fault.PageFault.TheVariants.{Damaged as PageDamaged}
 use Rattle.rss_base.specs.declared.place.Place.{Place}
 use Rattle.rss_base.specs.declared.refusal.Refusal.{Refusal}
-use Rattle.rss_stored.specs.Calls.{EngineView, MayWrite, GoesOn, IsCallOf, calls_most}
-use Rattle.rss_model.specs.Costs.{RisesAtMost, most_asks}
+use Rattle.rss_stored.specs.Calls.{EngineView, GoesOn, IsCallOf, calls_most}
+use Rattle.rss_model.specs.Callers.{caller}
+use Rattle.rss_model.specs.Costs.{RisesAtMost, most_asks, most_writes, may_save}
 use Rattle.rss_model.specs.Defining.{defined, DefinesNames}
 use Rattle.rss_model.specs.Machine.{State}
 use Rattle.rss_model.specs.Steps.{Step, refusal, redefined}
@@ -27,7 +28,7 @@ use Rattle.rss_model.specs.Steps.StepBy.{defines}
 use Rattle.rss_stored.specs.Store.{OpensToEither}
 use Rattle.rss_model.specs.Tables.{Tables}
 use Rattle.rss_stored.specs.Turns.{IsStopped}
-use Rattle.rss_stored.proofs.Endings.{comes_to, IsDefined, defined_by}
+use Rattle.rss_stored.proofs.Endings.{comes_to, none_no_end, IsDefined, defined_by}
 use Rattle.rss_model.proofs.StepKeeping.{steps_keep}
 use Rattle.rss_catalog.specs.Catalogs.{CatalogView}
 use Rattle.rss_lock.specs.Locks.{LocksView}
@@ -36,7 +37,7 @@ use Rattle.rss_trans.specs.Tables.{told}
 use Rattle.rss_trans.specs.Transactions.{Transaction, is_open}
 use Rattle.rss_session.specs.Admissions.{Says}
 use Rattle.rss_session.specs.Calls.{IsRedefined, RedefinesTables, Appends}
-use Rattle.rss_session.specs.Calls.{GoesOn as SessionGoesOn}
+use Rattle.rss_session.specs.Calls.{ChecksOn}
 use Rattle.rss_session.specs.Definitions.{Relists, Redefines, Defining}
 use Rattle.rss_session.specs.Definitions.Relists.{segment, relation, drop_segment, drop_relation, link, drop_link}
 use Rattle.rss_session.specs.Parts.{view as session_view}
@@ -48,7 +49,7 @@ use Rattle.rss_session.proofs.Relisting.{with_catalog, but_catalog, saves_redefi
 use Rattle.rss_rsi.specs.Definitions.{Definition, IsDefining, parts_before, view_of}
 use Rattle.rss_rsi.specs.Views.{RssParts, IsIn, engine_view, IsReady}
 use Rattle.rss_rsi.proofs.Spelled.{none_open, none_scanning, still_scans, vacant}
-use Rattle.rss_rsi.proofs.Ways.{NeedsNone, goes, failed_within, refused_test, ready_counted, ready_then, opened_stay, holders_stay}
+use Rattle.rss_rsi.proofs.Ways.{NeedsNone, rises_any, goes_bounded, none_taken, failed_within, refused_test, ready_counted, ready_then, opened_stay, holders_stay}
 
 -- a call that defines asks for no page
 no_asks : {old new : Listing} {call : Call} (before now : ℕ) → now ≡ before → Relists old call new → RisesAtMost (most_asks call) before now
@@ -59,17 +60,17 @@ no_asks before now same (drop_relation number entry at unused none) = omega (ari
 no_asks before now same (link name parent child number entry at fresh least empty) = omega (arith, same)
 no_asks before now same (drop_link number entry at empty) = omega (arith, same)
 
--- and of its writes no bound is claimed
-any_writes : {old new : Listing} {call : Call} (before now : EngineView) → Relists old call new → MayWrite before now call
-any_writes before now (segment name number fresh least) = tt
-any_writes before now (relation name in_segment fields at number within fresh least) = tt
-any_writes before now (drop_segment name number at none) = tt
-any_writes before now (drop_relation number entry at unused none) = tt
-any_writes before now (link name parent child number entry at fresh least empty) = tt
-any_writes before now (drop_link number entry at empty) = tt
+-- It is no transaction's, and may take a checkpoint. Of its writes no bound is claimed.
+saves_any : {old new : Listing} {call : Call} → Relists old call new → (caller call ≡ None) × (may_save call ≡ true) × (most_writes call ≡ None)
+saves_any (segment name number fresh least) = (refl, refl, refl)
+saves_any (relation name in_segment fields at number within fresh least) = (refl, refl, refl)
+saves_any (drop_segment name number at none) = (refl, refl, refl)
+saves_any (drop_relation number entry at unused none) = (refl, refl, refl)
+saves_any (link name parent child number entry at fresh least empty) = (refl, refl, refl)
+saves_any (drop_link number entry at empty) = (refl, refl, refl)
 
 -- what goes on doesn't hang on the catalog
-but_listed : {T : Type 0} {before new : SessionView} {result : Result T PageFault} (catalog : CatalogView) → SessionGoesOn (with_catalog catalog before) new result → SessionGoesOn before new result
+but_listed : {T : Type 0} {before new : SessionView} {result : Result T PageFault} (catalog : CatalogView) → ChecksOn (with_catalog catalog before) new result → ChecksOn before new result
 but_listed catalog on = record {
   told = on.told;
   history = on.history;
@@ -80,6 +81,7 @@ but_listed catalog on = record {
   log_pages = on.log_pages;
   frames = on.frames;
   saves = on.saves;
+  unsaved = λ still. let saves = on.unsaved still in record { root = saves.root; drives = saves.drives };
 }
 
 -- no transaction is open
@@ -151,14 +153,15 @@ module _ {S : Type 0} (pages_view : S → PagesView) {to : Definition S} {now : 
 
     -- ---- and committed
 
-    module _ {new : SessionView} {result : Result (Unit {0}) PageFault} (on : SessionGoesOn between new result) (moments : RedefinesTables between new) (asks : new.store.pages.asks ≡ between.store.pages.asks) where
-      on_before : SessionGoesOn before.session new result
-      on_before = but_listed now.store.catalog (subst (λ (v : SessionView). SessionGoesOn v new result) (sym (but_catalog pages_view redefines)) on)
+    module _ {new : SessionView} {result : Result (Unit {0}) PageFault} (on : ChecksOn between new result) (moments : RedefinesTables between new) (asks : new.store.pages.asks ≡ between.store.pages.asks) where
+      on_before : ChecksOn before.session new result
+      on_before = but_listed now.store.catalog (subst (λ (v : SessionView). ChecksOn v new result) (sym (but_catalog pages_view redefines)) on)
 
-      pub goes_redefining : {up_now : Type 0} → GoesOn (view_of pages_view to) (engine_view (with_held new) calls up_now) to.call
-      goes_redefining {up_now = up_now} = goes result on_before (omega (arith, is.counted))
+      pub goes_redefining : {up_now : Type 0} → (up_now → IsOk result) → GoesOn (view_of pages_view to) (engine_view (with_held new) calls up_now) to.call
+      goes_redefining {up_now = up_now} is_ok = goes_bounded result (none_no_end to.call (saves_any redefines.relists).0) on_before (omega (arith, is.counted))
           (no_asks before.session.store.pages.asks new.store.pages.asks (asks ∙ ap (λ (p : PagesView). p.asks) pages_same) redefines.relists)
-          (any_writes (view_of pages_view to) (engine_view (with_held new) calls up_now) redefines.relists)
+          (rises_any before.session.store.pages.writes new.store.pages.writes (saves_any redefines.relists).2)
+          (none_taken before.session new to.call up_now result (saves_any redefines.relists).1 is_ok)
 
       module _ (told : IsTold before.session.store.pages.disk) (state : State) (is_in : IsIn before state) where
         abbrev next : Tables
@@ -200,9 +203,9 @@ module _ {S : Type 0} (pages_view : S → PagesView) {to : Definition S} {now : 
           moments = either;
         }
 
-      pub redefined_done : {up : Type 0} → up → (IsTold between.store.pages.disk → (state : State) (next : Tables) → IsRedefined between state next → Shows new (redefined next state))
+      pub redefined_done : {up : Type 0} → IsOk result → up → (IsTold between.store.pages.disk → (state : State) (next : Tables) → IsRedefined between state next → Shows new (redefined next state))
           → IsCallOf (view_of pages_view to) (engine_view (with_held new) calls up) to.call (Ok Done)
-      redefined_done is_up shows = comes_to refl goes_redefining (defined_by is.names is_up (λ told state is_in. is_defined told state is_in shows))
+      redefined_done is_ok is_up shows = comes_to refl (goes_redefining (λ up. is_ok)) (defined_by is.names is_up (λ told state is_in. is_defined told state is_in shows))
 
       -- nothing was begun or ended
       opened_same : new.opened.transactions ≡ between.opened.transactions → new.opened.transactions ≡ before.session.opened.transactions
@@ -217,10 +220,10 @@ module _ {S : Type 0} (pages_view : S → PagesView) {to : Definition S} {now : 
 
     -- the device failed, or shows damage, which none does that tells its contents, where what is listed may be committed
     pub redefining_fails : {new : SessionView} {fault : PageFault} {up_now : Type 0} (answer : Result Reply CallError) → IsErrAnd answer (λ why. why ≡ page_error fault) → (up_now → ⊥)
-        → SessionGoesOn {T = Unit {0}} between new (Err fault) → RedefinesTables between new → new.store.pages.asks ≡ between.store.pages.asks
+        → ChecksOn {T = Unit {0}} between new (Err fault) → RedefinesTables between new → new.store.pages.asks ≡ between.store.pages.asks
         → ((place : Place) → ◌≡◌ {A = Result (Unit {0}) PageFault} (Err fault) (Err (PageDamaged place)) → IsTold between.store.pages.disk → (state : State) (next : Tables) → IsRedefined between state next → ⊥) → IsCallOf (view_of pages_view to) (engine_view (with_held new) calls up_now) to.call answer
     redefining_fails answer answered down on moments asks sound =
-        failed_within answer answered refl down (on_before on moments asks) (goes_redefining on moments asks) (λ place same told state is_in. sound place same (told_then told) state (next on moments asks told state is_in) (redefining on moments asks told state is_in)) (may_stop on moments asks)
+        failed_within answer answered refl down (on_before on moments asks) (goes_redefining on moments asks (λ up. absurd (down up))) (λ place same told state is_in. sound place same (told_then told) state (next on moments asks told state is_in) (redefining on moments asks told state is_in)) (may_stop on moments asks)
 
 -- ---- calls that define
 

@@ -106,4 +106,4 @@ module _ (parts : RssParts) (t : ℕ) (relation : Name) (tid : Tid) (admitted : 
         }
 
     pub delete_ends : EndsByChange parts (granted t list parts.locks.locks) t (DeleteRecord number tid bytes) (Delete t relation tid) Done
-    delete_ends = record { last = last_of; short = omega arith; may = record { stop = delete_looks.may.stop; asks = refl; writes = refl } }
+    delete_ends = record { last = last_of; short = omega arith; may = record { stop = delete_looks.may.stop; asks = refl; writes = refl }; saves = refl }

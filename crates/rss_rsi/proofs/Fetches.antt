@@ -1,5 +1,5 @@
 -- A fetch, by what was found.
-use Rattle.std.proofs.Common.{[], ◌≡◌, ℕ, ◌+◌, ◌≤◌, List, refl, sym, ◌∙◌, ap, subst, arith}
+use Rattle.std.proofs.Common.{[], ◌≡◌, ℕ, ◌+◌, List, refl, sym, ◌∙◌, ap, subst, arith}
 use Rattle.std.specs.Prelude.{None, Ok, is_some}
 use Rattle.rss_base.specs.declared.answer.Reply.TheVariants.{Tuple as TupleReply}
 use Rattle.rss_base.specs.declared.call.Call.TheVariants.{Fetch}
@@ -36,7 +36,7 @@ module _ (parts : RssParts) (t : ℕ) (relation : Name) (tid : Tid) (admitted : 
 
   -- and gives what is found, whose locks it holds then
   pub fetch_gives : {mid new : RssParts} {number n m : ℕ} {values : List Value} {list : List Need} {up up_now : Type 0} → FindsHeld parts mid t number relation tid Read [] values list
-      → new.session ≡ mid.session → new.locks.locks ≡ granted t list mid.locks.locks → new.scans ≡ parts.scans → up → up_now → m ≤ n + 1
+      → new.session ≡ mid.session → new.locks.locks ≡ granted t list mid.locks.locks → new.scans ≡ parts.scans → up → up_now → m ≡ n + 1
       → IsCallOf (engine_view parts n up) (engine_view new m up_now) (Fetch t relation tid) (Ok (TupleReply values))
   fetch_gives {new = new} {values = values} {list = list} found same taken scans was_up is_up calls =
       let looked = subst (λ (session : SessionView). LooksUp parts.session session values) (sym same) found.looked in

@@ -1,5 +1,5 @@
 -- The calls on links that change nothing: what the step of each comes to, and how a scan goes along a chain.
-use Rattle.std.proofs.Common.{◌≡◌, ℕ, ◌+◌, ◌≤◌, List, [], refl, sym, ◌∙◌, ap, subst, arith}
+use Rattle.std.proofs.Common.{◌≡◌, ℕ, ◌+◌, List, [], refl, sym, ◌∙◌, ap, subst, arith}
 use Rattle.std.specs.Prelude.{Option, Some, None, Result, Ok, Err, IsErrAnd, IfErr, IfSome, option_map}
 use Rattle.std.proofs.lemmas.Option.{same_Some}
 use Rattle.rss_base.specs.DiskRule.{IsTold}
@@ -41,7 +41,7 @@ use Rattle.rss_rsi.proofs.Ways.{refused_early}
 
 -- a call that looks at links is refused by what it begins with
 pub linked_early : {parts : RssParts} {t : ℕ} {front behind last : State → Option Refusal} {call : Call} (linked : IsLinked t front behind last call) (part : State → Option Refusal) → ((state : State) (why : Refusal) → part state ≡ Some why → front state ≡ Some why)
-    → {n m : ℕ} {up up_now : Type 0} → up → up_now → m ≤ n + 1 → {why : Refusal} (result : Result Reply CallError) → IsErrAnd result (λ e. e ≡ Refused why) → Refuses parts.session part why → IsCallOf (engine_view parts n up) (engine_view parts m up_now) call result
+    → {n m : ℕ} {up up_now : Type 0} → up → up_now → m ≡ n + 1 → {why : Refusal} (result : Result Reply CallError) → IsErrAnd result (λ e. e ≡ Refused why) → Refuses parts.session part why → IsCallOf (engine_view parts n up) (engine_view parts m up_now) call result
 linked_early linked part first was_up is_up calls {why = why} result is bad = refused_early result is was_up is_up calls bad.1 (λ told state shows.
     let so = first state why (bad.0 told state shows) in (linked_unfit linked state so, linked.bare state why so))
 

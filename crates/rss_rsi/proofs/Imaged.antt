@@ -1,5 +1,5 @@
 -- A call that makes an image, by its tests and by what its search found.
-use Rattle.std.proofs.Common.{◌≡◌, ℕ, ◌+◌, ◌≤◌, Bool, List, [], ◌∷◌, ◌++◌, refl, sym, ◌∙◌, ap, subst}
+use Rattle.std.proofs.Common.{◌≡◌, ℕ, ◌+◌, Bool, List, [], ◌∷◌, ◌++◌, refl, sym, ◌∙◌, ap, subst}
 use Rattle.std.specs.Prelude.{Option, Some, None, true, Result, Ok, Err, IsErrAnd}
 use Rattle.std.specs.FinMap.{empty}
 use Rattle.rss_base.specs.Answers.{page_error}
@@ -51,21 +51,21 @@ pub record DefinesAny (call : Call) : Type 0 where
 
 pub any_image : {name relation : Name} {is_unique : Bool} {fields : List Name} → DefinesAny (MakeImage name relation is_unique fields)
 any_image {name = name} {relation = relation} {is_unique = is_unique} {fields = fields} = record {
-  costs = record { of_none = refl; asks = refl; writes = refl };
+  costs = record { of_none = refl; asks = refl; writes = refl; saves = refl };
   bare = λ tables. refl;
   memory = refl;
   so = λ state. (with_definitions (with_image state.base.definitions name (image_def relation is_unique fields)) state.base, refl);
 }
 
-module _ (old new : RssParts) {n m : ℕ} {up up_now : Type 0} {call : Call} (any : DefinesAny call) (names : DefinesNames call) (held : SameHeld old new) (was_up : up) (calls : m ≤ n + 1) where
+module _ (old new : RssParts) {n m : ℕ} {up up_now : Type 0} {call : Call} (any : DefinesAny call) (names : DefinesNames call) (held : SameHeld old new) (was_up : up) (calls : m ≡ n + 1) where
   fails_by : {fault : PageFault} (result : Result Reply CallError) → IsErrAnd result (λ why. why ≡ page_error fault) → (up_now → ⊥) → LooksOn {T = Unit {0}} old.session new.session (Err fault) → IsCallOf (engine_view old n up) (engine_view new m up_now) call result
-  fails_by result is down looks = failed_within result is was_up down looks.goes (goes_any any.costs looks.goes calls)
+  fails_by result is down looks = failed_within result is was_up down looks.goes (goes_any any.costs looks.goes calls (λ none. tt))
       (λ place same told state is_in. looks.sound place same told)
       (λ told state is_in. stopped_by new looks.moments told is_in (may_define state call names (any.so state).1))
 
   -- so the call ends
   pub search_fails : (why : CallError) → SearchEnds {T = Unit {0}} old.session new.session up_now (Err why) → IsCallOf (engine_view old n up) (engine_view new m up_now) call (Err why)
-  search_fails NoMemory ends = lacks_behind any.memory was_up ends.0 (goes_any any.costs ends.1.goes calls) ends.1.moments ends.1.shows held
+  search_fails NoMemory ends = lacks_behind any.memory was_up ends.0 (goes_any any.costs ends.1.goes calls (λ none. tt)) ends.1.moments ends.1.shows held
   search_fails Device ends = fails_by {fault = DeviceFailed} (Err Device) refl ends.0 ends.1
   search_fails (Damaged place) ends = fails_by {fault = PageDamaged place} (Err (Damaged place)) refl ends.0 ends.1
   search_fails (Refused why) ends = absurd ends
@@ -76,7 +76,7 @@ module _ (old new : RssParts) {n m : ℕ} {up up_now : Type 0} {call : Call} (an
     pub refused_searched : {why : Refusal} (result : Result Reply CallError) → IsErrAnd result (λ e. e ≡ Refused why) → up_now → IsShort (Err why)
         → (IsTold old.session.store.pages.disk → (state : State) → Kept state → Shows old.session state → refusal state call ≡ Some why) → IsCallOf (engine_view old n up) (engine_view new m up_now) call result
     refused_searched {why = why} result is is_up short refused =
-        refused_behind result is was_up is_up short (goes_any any.costs looks.goes calls) looks.moments held.scans (λ told state is_in. (
+        refused_behind result is was_up is_up short (goes_any any.costs looks.goes calls (λ none. tt)) looks.moments held.scans (λ told state is_in. (
           refused told state is_in.kept is_in.shows,
           looks.shows told state is_in.shows,
           left_bare call why (any.bare (now state)) is_in ∙ sym held.locks,
@@ -88,11 +88,11 @@ keeps_then new looks moments told state kept shows =
     then (looks.moments told state kept shows) (moments (looks.goes.told.0 told) state kept (looks.shows told state shows)) (λ image holds. holds)
 
 -- what follows the search fails
-pub fill_fails : (old new : RssParts) {mid : SessionView} {n m : ℕ} {up up_now : Type 0} {call : Call} {fault : PageFault} → DefinesAny call → DefinesNames call → Searches old.session mid → up → m ≤ n + 1 → (result : Result Reply CallError) → IsErrAnd result (λ why. why ≡ page_error fault) → (up_now → ⊥)
+pub fill_fails : (old new : RssParts) {mid : SessionView} {n m : ℕ} {up up_now : Type 0} {call : Call} {fault : PageFault} → DefinesAny call → DefinesNames call → Searches old.session mid → up → m ≡ n + 1 → (result : Result Reply CallError) → IsErrAnd result (λ why. why ≡ page_error fault) → (up_now → ⊥)
     → GoesOn {T = Unit {0}} mid new.session (Err fault) → KeepsTables mid new.session → ((place : Place) → ◌≡◌ {A = Result (Unit {0}) PageFault} (Err fault) (Err (PageDamaged place)) → IsTold mid.store.pages.disk → ShowsNone mid) → IsCallOf (engine_view old n up) (engine_view new m up_now) call result
 fill_fails old new {call = call} any names looks was_up calls result is down on moments sound =
     let on_before = goes_then looks.goes on in
-    failed_within result is was_up down on_before (goes_any any.costs on_before calls)
+    failed_within result is was_up down on_before (goes_any any.costs on_before calls (λ none. tt))
     (λ place same told state is_in. sound place same (looks.goes.told.0 told) state is_in.kept (looks.shows told state is_in.shows))
     (λ told state is_in. stopped_by new (keeps_then new.session looks moments) told is_in (may_define state call names (any.so state).1))
 

@@ -1,6 +1,6 @@
 -- The ways in which a call ends that makes an image or takes one away.
-use Rattle.std.proofs.Common.{◌≡◌, inl, ℕ, ◌+◌, ◌≤◌, ◌<◌, Option, Some, None, refl, sym, ◌∙◌, ap, subst, arith}
-use Rattle.std.specs.Prelude.{Result, Ok, Err, IsErrAnd, IfNone, IfSome}
+use Rattle.std.proofs.Common.{◌≡◌, inl, ℕ, ◌+◌, ◌<◌, Option, Some, None, refl, sym, ◌∙◌, ap, subst, arith}
+use Rattle.std.specs.Prelude.{Result, Ok, Err, IsOk, IsErrAnd, IfNone, IfSome}
 use Rattle.std.specs.FinMap.{empty, get}
 use Rattle.std.proofs.lemmas.Bool.{true≢false}
 use Rattle.std.proofs.lemmas.Option.{same_Some}
@@ -19,9 +19,9 @@ use Rattle.rss_base.specs.declared.fault.PageFault.TheVariants.{Damaged as PageD
 use Rattle.rss_base.specs.declared.name.Name.{Name}
 use Rattle.rss_base.specs.declared.place.Place.{Place}
 use Rattle.rss_base.specs.declared.refusal.Refusal.{Refusal}
+use Rattle.rss_base.specs.declared.root.Root.{Root}
 use Rattle.rss_base.proofs.Moments.{then, widened}
-use Rattle.rss_stored.specs.Calls.{GoesOn, IsCallOf, calls_most}
-use Rattle.rss_model.specs.Costs.{RisesAtMost}
+use Rattle.rss_stored.specs.Calls.{TakesNone, GoesOn, IsCallOf, calls_most}
 use Rattle.rss_model.specs.Defining.{defined, DefinesNames}
 use Rattle.rss_model.specs.Machine.{State}
 use Rattle.rss_model.specs.ReplyText.{IsShort}
@@ -41,28 +41,27 @@ use Rattle.rss_trans.specs.Transactions.{OpenView}
 use Rattle.rss_session.specs.Admissions.{Says}
 use Rattle.rss_session.specs.Calls.{IsRedefined, KeepsTables, RedefinesTables, Appends}
 use Rattle.rss_session.specs.Calls.{GoesOn as SessionGoesOn}
+use Rattle.rss_session.specs.Calls.{GoesOnIf, TakesNoCheckpoint, ChecksOn}
 use Rattle.rss_session.specs.Parts.{view as session_view}
 use Rattle.rss_session.specs.Sessions.{SessionView, IsEarly}
 use Rattle.rss_session.specs.Sessions.{IsReady as IsSessionReady}
 use Rattle.rss_session.specs.Shown.{Shows}
 use Rattle.rss_session.specs.Taking.{TakesImage, without_image}
 use Rattle.rss_session.specs.declared.session.Session.{Session}
-use Rattle.rss_session.proofs.Passing.{goes_then}
+use Rattle.rss_session.proofs.Passing.{goes_if, goes_then}
 use Rattle.rss_rsi.specs.Definitions.{Definition, parts_before, view_of}
 use Rattle.rss_rsi.specs.Imaging.{CostsAny, IsListed, IsRelisted, MayRedefine}
 use Rattle.rss_rsi.specs.Views.{RssParts, IsIn, engine_view, IsReady}
 use Rattle.rss_rsi.proofs.Defining.{none_open_in}
 use Rattle.rss_rsi.proofs.Spelled.{none_open, none_scanning, still_scans, vacant}
-use Rattle.rss_rsi.proofs.Ways.{MayStep, ScanTable, goes_bounded, failed_within, ready_then, refused_test, rss_parts, opened_stay, holders_stay}
+use Rattle.rss_rsi.proofs.Ways.{MayStep, ScanTable, rises_any, goes_bounded, none_taken, failed_within, ready_then, refused_test, rss_parts, opened_stay, holders_stay}
 
--- where no bound is claimed
-rises_any : {most : Option ℕ} (before now : ℕ) → most ≡ None → RisesAtMost most before now
-rises_any before now none = subst (λ (most : Option ℕ). RisesAtMost most before now) (sym none) tt
-
-pub goes_any : {T : Type 0} {old new : RssParts} {n m : ℕ} {up up_now : Type 0} {call : Call} {result : Result T PageFault} → CostsAny call → SessionGoesOn old.session new.session result → m ≤ n + 1 → GoesOn (engine_view old n up) (engine_view new m up_now) call
-goes_any {old = old} {new = new} {call = call} {result = result} costs on calls =
+-- no bound is claimed
+pub goes_any : {T : Type 0} {still : Type 0} {old new : RssParts} {n m : ℕ} {up up_now : Type 0} {call : Call} {result : Result T PageFault} → CostsAny call → GoesOnIf still old.session new.session result → m ≡ n + 1
+    → (TakesNone (engine_view old n up) (engine_view new m up_now) call → still) → GoesOn (engine_view old n up) (engine_view new m up_now) call
+goes_any {old = old} {new = new} {call = call} {result = result} costs on calls is =
     goes_bounded result (none_no_end call costs.of_none) on calls (rises_any old.session.store.pages.asks new.session.store.pages.asks costs.asks)
-    (rises_any old.session.store.pages.writes new.session.store.pages.writes costs.writes)
+    (rises_any old.session.store.pages.writes new.session.store.pages.writes costs.writes) is
 
 -- a call that defines may make a step: it is refused, or it defines
 pub may_define : (state : State) (call : Call) {next : Tables} → DefinesNames call → defined call state.base ≡ Some next → MayStep state call
@@ -91,12 +90,12 @@ module _ {S : Type 0} (pages_view : S → PagesView) {to : Definition S} {now : 
 
   -- ---- and it is committed
 
-  module _ {new : SessionView} {result : Result (Unit {0}) PageFault} (on : SessionGoesOn between new result) (moments : RedefinesTables between new) where
-    on_before : SessionGoesOn before.session new result
-    on_before = goes_then is.lists.goes on
+  module _ {new : SessionView} {result : Result (Unit {0}) PageFault} (on : ChecksOn between new result) (moments : RedefinesTables between new) where
+    on_before : ChecksOn before.session new result
+    on_before = goes_if {still = TakesNoCheckpoint between new result} (λ still. (still.0, still.1 ∙ sym (ap (λ (r : Root). r.checkpoint) (is.lists.goes.unsaved tt).root))) (goes_then (goes_if (λ still. tt) is.lists.goes) on)
 
-    goes_listed : {up_now : Type 0} → GoesOn (view_of pages_view to) (engine_view (with_held new) calls up_now) to.call
-    goes_listed = goes_any is.costs on_before (omega (arith, is.counted))
+    goes_listed : {up_now : Type 0} → (up_now → IsOk result) → GoesOn (view_of pages_view to) (engine_view (with_held new) calls up_now) to.call
+    goes_listed {up_now = up_now} is_ok = goes_any is.costs on_before (omega (arith, is.counted)) (none_taken before.session new to.call up_now result is.costs.saves is_ok)
 
     module _ (told : IsTold before.session.store.pages.disk) (state : State) (is_in : IsIn before state) where
       may : MayRedefine state to.call between
@@ -126,9 +125,9 @@ module _ {S : Type 0} (pages_view : S → PagesView) {to : Definition S} {now : 
         moments = either;
       }
 
-    pub image_done : {up : Type 0} → up → (IsTold between.store.pages.disk → (state : State) (next : Tables) → IsRedefined between state next → Shows new (redefined next state))
+    pub image_done : {up : Type 0} → IsOk result → up → (IsTold between.store.pages.disk → (state : State) (next : Tables) → IsRedefined between state next → Shows new (redefined next state))
         → IsCallOf (view_of pages_view to) (engine_view (with_held new) calls up) to.call (Ok Done)
-    image_done is_up shows = comes_to refl goes_listed (defined_by is.names is_up (λ told state is_in. is_defined told state is_in shows))
+    image_done is_ok is_up shows = comes_to refl (goes_listed (λ up. is_ok)) (defined_by is.names is_up (λ told state is_in. is_defined told state is_in shows))
 
     pub image_ready : IsSessionReady new → Appends largest_checkpoint between new → new.opened.transactions ≡ between.opened.transactions → IsReady (with_held new) calls
     image_ready ready appends transactions = ready_then {appended = largest_checkpoint} is.ready is.counted (omega arith) ready
@@ -139,10 +138,10 @@ module _ {S : Type 0} (pages_view : S → PagesView) {to : Definition S} {now : 
 
   -- the device failed, or shows damage, which none does that tells its contents
   pub image_fails : {new : SessionView} {fault : PageFault} {up_now : Type 0} (answer : Result Reply CallError) → IsErrAnd answer (λ why. why ≡ page_error fault) → (up_now → ⊥)
-      → SessionGoesOn {T = Unit {0}} between new (Err fault) → RedefinesTables between new
+      → ChecksOn {T = Unit {0}} between new (Err fault) → RedefinesTables between new
       → ((place : Place) → ◌≡◌ {A = Result (Unit {0}) PageFault} (Err fault) (Err (PageDamaged place)) → IsTold between.store.pages.disk → (state : State) (next : Tables) → IsRedefined between state next → ⊥) → IsCallOf (view_of pages_view to) (engine_view (with_held new) calls up_now) to.call answer
   image_fails answer answered down on moments sound =
-      failed_within answer answered refl down (on_before on moments) (goes_listed on moments)
+      failed_within answer answered refl down (on_before on moments) (goes_listed on moments (λ up. absurd (down up)))
       (λ place same told state is_in. let so = may on moments told state is_in in sound place same (is.lists.goes.told.0 told) state so.next so.redefines)
       (may_stop on moments)
 
@@ -160,6 +159,7 @@ goes_plain on = record {
   log_pages = on.log_pages;
   frames = on.frames;
   saves = on.saves;
+  unsaved = on.unsaved;
 }
 
 module _ {S : Type 0} (pages_view : S → PagesView) where
@@ -198,7 +198,7 @@ drop_listed {name = name} None is takes says moments goes = record {
 
 -- it is refused, and nothing has changed
 pub drop_refused : {S : Type 0} (pages_view : S → PagesView) (old now : Session S) {name : Name} (locks : LockTable) (scans : ScanTable) (refused : Option Refusal) {why : Refusal} → refused ≡ Some why → IfSome refused (λ why. now ≡ old) → IfSome refused (λ why. IsShort (Err why))
-    → Says (session_view pages_view old) (λ state. refusal state (DropImage name)) refused → {n m : ℕ} {up up_now : Type 0} → up → up_now → m ≤ n + 1
+    → Says (session_view pages_view old) (λ state. refusal state (DropImage name)) refused → {n m : ℕ} {up up_now : Type 0} → up → up_now → m ≡ n + 1
     → IsCallOf (engine_view (rss_parts pages_view old locks scans) n up) (engine_view (rss_parts pages_view now locks scans) m up_now) (DropImage name) (Err (Refused why))
 drop_refused pages_view old now locks scans None is same short says was_up is_up calls = absurd (cc (is))
 drop_refused {S = S} pages_view old now {name = name} locks scans (Some other) {why = why} is same short says {n = n} {m = m} {up = up} {up_now = up_now} was_up is_up calls =

@@ -1,5 +1,5 @@
 -- An insert, by its tests and by what was found for it.
-use Rattle.std.proofs.Common.{◌≡◌, ℕ, ◌+◌, ◌^◌, ◌≤◌, ◌<◌, List, [], ◌∷◌, ◌++◌, length, drop, refl, sym, ◌∙◌, ap, subst, arith, length-append}
+use Rattle.std.proofs.Common.{◌≡◌, ℕ, ◌+◌, ◌^◌, ◌<◌, List, [], ◌∷◌, ◌++◌, length, drop, refl, sym, ◌∙◌, ap, subst, arith, length-append}
 use Rattle.std.specs.Prelude.{Some, None, is_some, option_map, Ok, Err}
 use Rattle.std.proofs.lemmas.Bool.{false_from_ne_true}
 use Rattle.std.proofs.lemmas.Option.{same_Some}
@@ -53,7 +53,7 @@ use Rattle.rss_rsi.proofs.Changes.{IsLast, EndsByChange}
 use Rattle.rss_rsi.proofs.Claims.{first_bar_behind, granted_behind, none_bars, claim_fails}
 use Rattle.rss_rsi.proofs.Telling.{tells_insert, may_make}
 use Rattle.rss_rsi.proofs.TupleTests.{three_stop, three_pass, last_test}
-use Rattle.rss_rsi.proofs.Ways.{SameHeld, goes, lacks_behind}
+use Rattle.rss_rsi.proofs.Ways.{SameHeld, goes_bounded, lacks_behind}
 
 -- what stands before the last of two lists
 front_same : {A : Type 0} (one other : List A) (a b : A) → one ++ a ∷ [] ≡ other ++ b ∷ [] → one ≡ other
@@ -144,11 +144,11 @@ module _ (parts : RssParts) {t : ℕ} {relation : Name} {values : List Value} {n
     looks_new : (new : RssParts) → new.session ≡ mid → LooksOn parts.session new.session (Ok tid)
     looks_new new same = subst (λ (session : SessionView). LooksOn parts.session session (Ok tid)) (sym same) looks
 
-    goes_placed : (new : RssParts) {n m : ℕ} {up up_now : Type 0} → new.session ≡ mid → m ≤ n + 1 → GoesOn (engine_view parts n up) (engine_view new m up_now) (Insert t relation values)
-    goes_placed new same calls = goes (Ok tid) (looks_new new same).goes calls tt tt
+    goes_placed : (new : RssParts) {n m : ℕ} {up up_now : Type 0} → new.session ≡ mid → m ≡ n + 1 → GoesOn (engine_view parts n up) (engine_view new m up_now) (Insert t relation values)
+    goes_placed new same calls = goes_bounded (Ok tid) (λ u is. absurd (cc (is))) (looks_new new same).goes calls tt tt (λ none. tt)
 
     -- memory runs out for the needs
-    pub insert_no_needs : (new : RssParts) {n m : ℕ} {up up_now : Type 0} → new.session ≡ mid → SameHeld parts new → up → up_now → m ≤ n + 1 → IsCallOf (engine_view parts n up) (engine_view new m up_now) (Insert t relation values) (Err NoMemory)
+    pub insert_no_needs : (new : RssParts) {n m : ℕ} {up up_now : Type 0} → new.session ≡ mid → SameHeld parts new → up → up_now → m ≡ n + 1 → IsCallOf (engine_view parts n up) (engine_view new m up_now) (Insert t relation values) (Err NoMemory)
     insert_no_needs new same held was_up is_up calls = lacks_behind refl was_up is_up (goes_placed new same calls) (looks_new new same).moments (looks_new new same).shows held
 
   -- ---- by what was found
@@ -172,7 +172,7 @@ module _ (parts : RssParts) {t : ℕ} {relation : Name} {values : List Value} {n
         ∙ (λ i. granted t (lists told state is_in i) (is_in.locked i))
 
     -- the claim fails
-    pub insert_lost : (new : RssParts) (U : Type 0) (before after : LocksView) {n m : ℕ} {up up_now : Type 0} {why : CallError} → new.session ≡ mid → SameHeld parts new → before.locks ≡ parts.locks.locks → up → up_now → m ≤ n + 1
+    pub insert_lost : (new : RssParts) (U : Type 0) (before after : LocksView) {n m : ℕ} {up up_now : Type 0} {why : CallError} → new.session ≡ mid → SameHeld parts new → before.locks ≡ parts.locks.locks → up → up_now → m ≡ n + 1
         → ClaimEnds {T = U} before after t list (Err why) → IsCallOf (engine_view parts n up) (engine_view new m up_now) (Insert t relation values) (Err why)
     insert_lost new U before after same held were was_up is_up calls =
         claim_fails refl was_up is_up (goes_placed looks new same calls) (looks_new looks new same).moments (looks_new looks new same).shows held U before after t list were
@@ -226,4 +226,4 @@ module _ (parts : RssParts) {t : ℕ} {relation : Name} {values : List Value} {n
             }
 
         pub insert_ends : EndsByChange parts (granted t list parts.locks.locks) t (InsertRecord number tid bytes) (Insert t relation values) (Identifier tid)
-        insert_ends = record { last = last_of; short = identifier_line tid page slot; may = may_insert }
+        insert_ends = record { last = last_of; short = identifier_line tid page slot; may = may_insert; saves = refl }

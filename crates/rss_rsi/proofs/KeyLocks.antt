@@ -197,7 +197,7 @@ duplicate_said first looks relation number {entry = entry} known at bytes {value
     ∙ sym (finds (looks.goes.told.0 told) state is_in.kept (looks.shows told state is_in.shows) entry (ap (λ (c : CatalogView). relation_at c.listing number) looks.catalog ∙ at) values spelled)
 
 -- A call is refused so behind looks, and keeps the locks of its list.
-pub refused_keeping : (first new : RssParts) {T : Type 0} {looked : T} → LooksOn first.session new.session (Ok looked) → {n m : ℕ} → m ≤ n + 1 → {up up_now : Type 0} → up → up_now → {call : Call} → MayCost call → {t : ℕ} → caller call ≡ Some t
+pub refused_keeping : (first new : RssParts) {T : Type 0} {looked : T} → LooksOn first.session new.session (Ok looked) → {n m : ℕ} → m ≡ n + 1 → {up up_now : Type 0} → up → up_now → {call : Call} → MayCost call → {t : ℕ} → caller call ≡ Some t
     → {why : Refusal} → IsShort (Err why) → keeps_locks why ≡ true → {list : List Need} → new.locks.locks ≡ granted t list first.locks.locks → new.scans ≡ first.scans
     → (IsTold first.session.store.pages.disk → (state : State) → IsIn first state → (needs (now state) call ≡ list) × (refusal state call ≡ Some why))
     → IsCallOf (engine_view first n up) (engine_view new m up_now) call (Err (Refused why))

@@ -5,6 +5,7 @@ pub mod Imaging
 pub mod Imaged
 pub mod TransactionSteps
 pub mod Looks
+pub mod Bodied
 pub mod NoTuple
 pub mod Sayable
 pub mod Needs

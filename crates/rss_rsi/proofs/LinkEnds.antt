@@ -1,5 +1,5 @@
 -- How the calls end that look at links: by their locks, by what they find, or by what comes of it.
-use Rattle.std.proofs.Common.{◌≡◌, ℕ, ◌+◌, ◌≤◌, Bool, true, false, List, refl, sym, ◌∙◌, ap, subst}
+use Rattle.std.proofs.Common.{◌≡◌, ℕ, ◌+◌, Bool, true, false, List, refl, sym, ◌∙◌, ap, subst}
 use Rattle.std.specs.Prelude.{Option, Some, None, Result, Ok, Err, IsErrAnd, IfSome, is_some}
 use Rattle.std.proofs.lemmas.Option.{none-some}
 use Rattle.std.proofs.lemmas.Result.{err_from_is_err_and}
@@ -161,11 +161,12 @@ test_lacks {old = old} {new = new} {up = up} {U = U} relation name tid why is sh
 
 -- ---- calls
 
-module _ (first new : RssParts) {mid : SessionView} {S : Type 0} {found : S} (looks : LooksOn first.session mid (Ok found)) {n m : ℕ} (calls : m ≤ n + 1) {up up_now : Type 0} (was_up : up) {call : Call} (may : MayCost call) {t : ℕ} (by : caller call ≡ Some t) where
+module _ (first new : RssParts) {mid : SessionView} {S : Type 0} {found : S} (looks : LooksOn first.session mid (Ok found)) {n m : ℕ} (calls : m ≡ n + 1) {up up_now : Type 0} (was_up : up) {call : Call} (may : MayCost call) {t : ℕ} (by : caller call ≡ Some t) where
   goes_broken : SessionGoesOn {T = Unit {0}} mid new.session (Ok tt) → GoesOn (engine_view first n up) (engine_view new m up_now) call
   goes_broken on = goes_bounded (Ok tt) (lacks_no_end call may.stop.memory) (goes_then looks.goes on) calls
       (subst (λ (most : Option ℕ). RisesAtMost most first.session.store.pages.asks new.session.store.pages.asks) (sym may.asks) tt)
       (subst (λ (most : Option ℕ). RisesAtMost most first.session.store.pages.writes new.session.store.pages.writes) (sym may.writes) tt)
+      (λ none. tt)
 
   -- The call ends by a test of what it has found: it is refused, and keeps its locks, or the look fails.
   pub tested_fails : {test : State → Option Refusal} {T : Type 0} (why : CallError) → TestEnds {T = T} mid new.session up_now test (Err why) → {list : List Need} → new.locks.locks ≡ kept_by why t list first.locks.locks → new.scans ≡ first.scans

@@ -1,5 +1,5 @@
 -- The call that opens a scan of a chain: what its step comes to.
-use Rattle.std.proofs.Common.{◌≡◌, inl, inr, ℕ, ◌+◌, ◌≤◌, List, [], ◌∷◌, refl, sym, ◌∙◌, ap, subst, arith}
+use Rattle.std.proofs.Common.{◌≡◌, inl, inr, ℕ, ◌+◌, List, [], ◌∷◌, refl, sym, ◌∙◌, ap, subst, arith}
 use Rattle.std.specs.Prelude.{Option, Some, None, Result, Ok, Err, is_some}
 use Rattle.std.specs.FinMap as map
 use Rattle.std.proofs.lemmas.Bool.{cases_lt}
@@ -69,7 +69,7 @@ test_passed (Err why) fails ends = absurd (fails why refl)
 
 module _ (parts : RssParts) (t : ℕ) (link : Name) (parent : Option Tid) (admitted : Says parts.session (λ state. link_admission state t link (Some (is_some parent))) None) where
   -- as many scans are open as may be
-  pub link_full : {n m : ℕ} {up up_now : Type 0} → m ≤ n + 1 → up → up_now → map.len parts.scans ≡ scans_most → IsCallOf (engine_view parts n up) (engine_view parts m up_now) (OpenLink t link parent) (Err (Refused (Limit ScanLimit)))
+  pub link_full : {n m : ℕ} {up up_now : Type 0} → m ≡ n + 1 → up → up_now → map.len parts.scans ≡ scans_most → IsCallOf (engine_view parts n up) (engine_view parts m up_now) (OpenLink t link parent) (Err (Refused (Limit ScanLimit)))
   link_full calls was_up is_up full = refused_alike (Err (Refused (Limit ScanLimit))) refl was_up is_up calls (omega arith) (λ told state is_in. (
     linked_unfit (open_link_linked t link parent) state (goes_on (if_scans_used_up state ∷ []) (admitted told state is_in.shows) ∙ ap (λ (o : Option Refusal). first_of (o ∷ [])) (scans_full is_in full)),
     left_same (OpenLink t link parent) (Limit ScanLimit) refl is_in,
@@ -83,7 +83,7 @@ module _ (parts : RssParts) (t : ℕ) (link : Name) (parent : Option Tid) (admit
     -- and the scan is open, where the parent is there
     pub link_opens : {list : List Need} → Lists parts (λ tables. needs tables (OpenLink t link parent)) list → {claimed : LocksView} → IsClaimed parts.locks claimed t list → {new : RssParts} → Searches parts.session new.session → SaysFound parts.session (above_test link parent) None
         → new.locks.locks ≡ granted t list parts.locks.locks → (number : ℕ) → IsLeastFree parts.scans number → new.scans ≡ map.insert parts.scans number (begun t (Link link parent))
-        → {n m : ℕ} {up up_now : Type 0} → m ≤ n + 1 → up → up_now → IsCallOf (engine_view parts n up) (engine_view new m up_now) (OpenLink t link parent) (Ok (Number number))
+        → {n m : ℕ} {up up_now : Type 0} → m ≡ n + 1 → up → up_now → IsCallOf (engine_view parts n up) (engine_view new m up_now) (OpenLink t link parent) (Ok (Number number))
     link_opens {list = list} lists claim {new = new} looks passed taken number least added {n = n} {up = up} calls was_up is_up = comes_to was_up (goes_costly parts new looks calls (open_link_linked t link parent).may)
         (answers is_up (number_line number (omega (arith, least.within))) (λ told state is_in. number_placed (engine_view parts n up) state (OpenLink t link parent) number) (λ told state is_in.
         let listed = lists told state is_in in

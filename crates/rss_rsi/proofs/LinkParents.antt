@@ -1,5 +1,5 @@
 -- The call that answers the parent of a tuple: what its step comes to.
-use Rattle.std.proofs.Common.{◌≡◌, ℕ, ◌+◌, ◌≤◌, true, List, refl, sym, ◌∙◌, ap, subst, arith}
+use Rattle.std.proofs.Common.{◌≡◌, ℕ, ◌+◌, true, List, refl, sym, ◌∙◌, ap, subst, arith}
 use Rattle.std.specs.Prelude.{Option, Some, None, Ok, is_some}
 use Rattle.std.proofs.lemmas.Option.{none-some}
 use Rattle.rss_base.specs.DiskRule.{IsTold}
@@ -68,7 +68,7 @@ module _ (parts : RssParts) (t : ℕ) (link : Name) (number : ℕ) (known : IsNu
       let here : chain_with (now state).contents link child ≡ Some (ChainItem link None) = at_some ∙ ap Some (of.1 ∙ ap (ChainItem link) no) in
       absurd (orphan (now state).contents its.definition.parent (its.has_above ∙ has) (parent_in (kept_fit state is_in.kept).1 link child None its.defined here))
 
-  module _ {new : RssParts} (looks : Searches parts.session new.session) (taken : new.locks.locks ≡ granted t list parts.locks.locks) (scans : new.scans ≡ parts.scans) {n m : ℕ} (calls : m ≤ n + 1) {up up_now : Type 0} (was_up : up) (is_up : up_now) where
+  module _ {new : RssParts} (looks : Searches parts.session new.session) (taken : new.locks.locks ≡ granted t list parts.locks.locks) (scans : new.scans ≡ parts.scans) {n m : ℕ} (calls : m ≡ n + 1) {up up_now : Type 0} (was_up : up) (is_up : up_now) where
     -- where it stands in a chain
     pub parent_found : (found : Option Tid) (tid : Tid) → found ≡ Some tid → SaysOfLink parts.session number (λ state name. found ≡ above_in (chain_with (now state).contents name child)) → IsShort (Ok (Identifier tid))
         → IsCallOf (engine_view parts n up) (engine_view new m up_now) (Parent t link child) (Ok (Identifier tid))

@@ -1,5 +1,5 @@
 -- The call that locks a segment or a relation: what it is refused for, and the step that it makes.
-use Rattle.std.proofs.Common.{◌≡◌, ℕ, ◌+◌, ◌≤◌, List, [], Some, None, refl, sym, ◌∙◌, ap, subst, arith}
+use Rattle.std.proofs.Common.{◌≡◌, ℕ, ◌+◌, List, [], Some, None, refl, sym, ◌∙◌, ap, subst, arith}
 use Rattle.std.specs.Prelude.{Bool, true, false, option_map, Ok, Err, Result, IsErrAnd}
 use Rattle.std.proofs.lemmas.Result.{err_from_is_err_and}
 use Rattle.rss_base.specs.declared.answer.CallError.{CallError}
@@ -51,7 +51,7 @@ granule_keeps state (Key image values) is = absurd (cc)
 pub store_same : (parts new : RssParts) → new.session ≡ parts.session → new.session.store ≡ parts.session.store
 store_same parts new same = ap (λ (session : SessionView). session.store) same
 
-module _ {parts : RssParts} (t : ℕ) (item : Item) (exclusive : Bool) {n m : ℕ} {up up_now : Type 0} (was_up : up) (is_up : up_now) (calls : m ≤ n + 1) where
+module _ {parts : RssParts} (t : ℕ) (item : Item) (exclusive : Bool) {n m : ℕ} {up up_now : Type 0} (was_up : up) (is_up : up_now) (calls : m ≡ n + 1) where
   -- its transaction isn't open
   pub lock_unopened : {why : Refusal} (result : Result Reply CallError) → IsErrAnd result (λ e. e ≡ Refused why) → Refuses parts.session (λ state. unless_open state t) why
       → IsCallOf (engine_view parts n up) (engine_view parts m up_now) (Lock t item exclusive) result

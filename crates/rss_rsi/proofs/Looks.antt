@@ -82,11 +82,12 @@ lists_before old mid wanted looks held lists told state is_in =
 
 -- ---- calls that may be made of what was looked at
 
-module _ {T : Type 0} {old new : RssParts} {result : Result T PageFault} (looks : LooksOn old.session new.session result) (costs : CostsTwo old.session new.session) {call : Call} (may : MayLook call) {n m : ℕ} (calls : m ≤ n + 1) where
+module _ {T : Type 0} {old new : RssParts} {result : Result T PageFault} (looks : LooksOn old.session new.session result) (costs : CostsTwo old.session new.session) {call : Call} (may : MayLook call) {n m : ℕ} (calls : m ≡ n + 1) where
   pub goes_looked : {up up_now : Type 0} → GoesOn (engine_view old n up) (engine_view new m up_now) call
   goes_looked = goes_bounded result (lacks_no_end call may.stop.memory) looks.goes calls
       (within_most (most_asks call) 2 old.session.store.pages.asks new.session.store.pages.asks may.asks costs.asks_high)
       (within_most (most_writes call) (run_pages * 2) old.session.store.pages.writes new.session.store.pages.writes may.writes costs.writes_high)
+      (λ none. tt)
 
   -- memory runs out behind the look
   pub lacks_looked : {up up_now : Type 0} → up → up_now → SameHeld old new → IsCallOf (engine_view old n up) (engine_view new m up_now) call (Err NoMemory)
@@ -94,11 +95,12 @@ module _ {T : Type 0} {old new : RssParts} {result : Result T PageFault} (looks 
 
 -- ---- calls of which it isn't said what they may cost
 
-module _ (old new : RssParts) {T : Type 0} {result : Result T PageFault} (looks : LooksOn old.session new.session result) {n m : ℕ} (calls : m ≤ n + 1) {up up_now : Type 0} {call : Call} (may : MayCost call) where
+module _ (old new : RssParts) {T : Type 0} {result : Result T PageFault} (looks : LooksOn old.session new.session result) {n m : ℕ} (calls : m ≡ n + 1) {up up_now : Type 0} {call : Call} (may : MayCost call) where
   pub goes_costly : GoesOn (engine_view old n up) (engine_view new m up_now) call
   goes_costly = goes_bounded result (lacks_no_end call may.stop.memory) looks.goes calls
       (subst (λ (most : Option ℕ). RisesAtMost most old.session.store.pages.asks new.session.store.pages.asks) (sym may.asks) tt)
       (subst (λ (most : Option ℕ). RisesAtMost most old.session.store.pages.writes new.session.store.pages.writes) (sym may.writes) tt)
+      (λ none. tt)
 
   -- memory runs out behind the look
   pub lacks_costly : up → up_now → SameHeld old new → IsCallOf (engine_view old n up) (engine_view new m up_now) call (Err NoMemory)
@@ -161,7 +163,7 @@ module _ {old : RssParts} {t : ℕ} {relation : Name} {tid : Tid} {access : Acce
   pub its_needs : IsTold old.session.store.pages.disk → (state : State) → IsIn old state → needs (now state) call ≡ list
   its_needs told state is_in = first.needs_are state is_in ∙ lists told state is_in
 
-  module _ {T : Type 0} (new : RssParts) {found : T} (looked : LooksUp old.session new.session found) {n m : ℕ} (calls : m ≤ n + 1) {up up_now : Type 0} (was_up : up) (is_up : up_now) where
+  module _ {T : Type 0} (new : RssParts) {found : T} (looked : LooksUp old.session new.session found) {n m : ℕ} (calls : m ≡ n + 1) {up up_now : Type 0} (was_up : up) (is_up : up_now) where
     -- its claim fails
     pub claim_lost : (U : Type 0) (before after : LocksView) {why : CallError} → SameHeld old new → before.locks ≡ old.locks.locks → ClaimEnds {T = U} before after t list (Err why) → IsCallOf (engine_view old n up) (engine_view new m up_now) call (Err why)
     claim_lost U before after held were ends =

@@ -17,6 +17,7 @@ use Rattle.rss_base.specs.declared.fault.PageFault.TheVariants.{Device as PageDe
 use Rattle.rss_base.specs.declared.link.LinkEntry.{LinkEntry}
 use Rattle.rss_base.specs.declared.name.Name.{Name}
 use Rattle.rss_base.specs.declared.place.Place.{Place}
+use Rattle.rss_base.specs.declared.place.Place.TheVariants.{Tuple as TuplePlace}
 use Rattle.rss_base.specs.declared.refusal.Kind.TheVariants.{Link as LinkKind}
 use Rattle.rss_base.specs.declared.refusal.Refusal.{Refusal}
 use Rattle.rss_base.specs.declared.refusal.Refusal.TheVariants.{NotConnected}
@@ -47,6 +48,8 @@ use Rattle.rss_session.proofs.Passing.{goes_then}
 use Rattle.rss_rsi.specs.Linking.{SaysFound, TestEnds}
 use Rattle.rss_rsi.specs.Scanning.{ChainGoesOn, FindsMemberRow, ReadEnds, Reads, lost_test}
 use Rattle.rss_rsi.proofs.Chained.{LinkIn, link_entry, link_shown, member_there}
+use Rattle.rss_rsi.specs.Bodies.{FailsThere, below, lost, IsReadOf, ComesOf, IsDownBy}
+use Rattle.rss_rsi.proofs.Bodied.{read_never, read_only}
 use Rattle.rss_rsi.proofs.Changes.{goes_anyhow}
 
 -- ---- a tuple that is read
@@ -111,6 +114,21 @@ module _ {old new : SessionView} {up : Type 0} (number : ℕ) (tid : Tid) where
           },
         );
       }
+
+-- no tuple stands there, or the look fails
+pub read_there : {old new : SessionView} {up : Type 0} (number : ℕ) (tid : Tid) {known : RelationEntry} → relation_at old.store.catalog.listing number ≡ Some known → (up → ⊥) → {why : CallError} → FailsThere old new known.segment number tid why → ReadEnds old new up number tid (Err why)
+read_there {old = old} {new = new} {up = up} number tid at down (below fails) = subst (λ (e : CallError). ReadEnds old new up number tid (Err e)) (sym fails.is) (read_fails number tid fails.fault fails.looks down)
+read_there number tid {known = known} at down (lost is looks finds) = read_lost number tid at (looks_as false looks) finds refl down (TuplePlace known.segment tid) is
+
+-- by what comes of its body
+module _ {old new : SessionView} (number : ℕ) (tid : Tid) {known : RelationEntry} (at : relation_at old.store.catalog.listing number ≡ Some known) {T : Type 0} {found : T} (looks : LooksOn old new (Ok found)) (place : Place) (down : Bool) {body : List ℕ} (finds : IsTold old.store.pages.disk → FindsTuple old known.segment number tid true body) where
+  pub read_ends : ((values : List Value) → IsReadOf old.store.catalog.listing number (kinds known.fields) body values → IsShort (Ok (Row tid values))) → (result : Result (List Value) CallError) → ComesOf old.store.catalog.listing number (kinds known.fields) place body result → IsDownBy result down → ReadEnds old new (down ≡ false) number tid result
+  read_ends short (Ok values) comes ends = read_gives number tid at (looks_as true looks) finds refl (Some values) (read_only comes) ends values refl (short values comes)
+  read_ends short (Err NoMemory) comes ends = record { by = (ends, looks_as (tt {0}) looks) }
+  read_ends short (Err (Damaged where_it)) comes ends = read_none number tid at (looks_as true looks) finds refl None (read_never comes.1) refl (λ up. true≢false (sym ends ∙ up)) where_it refl
+  read_ends short (Err (Refused why)) comes ends = absurd comes
+  read_ends short (Err Device) comes ends = absurd comes
+  read_ends short (Err Down) comes ends = absurd comes
 
 -- ---- the next one
 

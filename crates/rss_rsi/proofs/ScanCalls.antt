@@ -1,5 +1,5 @@
 -- The calls of scans: what they are refused for, and the steps that they make.
-use Rattle.std.proofs.Common.{◌≡◌, ℕ, ◌+◌, ◌≤◌, false, true, List, [], ◌∷◌, drop, refl, sym, ◌∙◌, ap, subst, arith}
+use Rattle.std.proofs.Common.{◌≡◌, ℕ, ◌+◌, false, true, List, [], ◌∷◌, drop, refl, sym, ◌∙◌, ap, subst, arith}
 use Rattle.std.specs.Prelude.{Option, Some, None, is_some, option_map, option_and_then, Ok, Err, Result, IsErrAnd}
 use Rattle.std.specs.FinMap as map
 use Rattle.std.proofs.lemmas.Option.{same_Some}
@@ -166,7 +166,7 @@ image_opening t image from = record {
 pub busy_is : {t : ℕ} (call : Call) → caller call ≡ Some t → (state : State) (bar : Option Bar) → first_bar state.locks t (needs (now state) call) ≡ bar → if_busy state call ≡ option_map busy bar
 busy_is call by state bar is = ap (option_and_then (λ u. if_busy_for state u call)) by ∙ ap (option_map busy) is
 
-module _ {parts : RssParts} {t : ℕ} {front : State → Option Refusal} {along : MachinePath} {call : Call} (opening : IsOpening t front along call) {n m : ℕ} {up up_now : Type 0} (was_up : up) (is_up : up_now) (calls : m ≤ n + 1) where
+module _ {parts : RssParts} {t : ℕ} {front : State → Option Refusal} {along : MachinePath} {call : Call} (opening : IsOpening t front along call) {n m : ℕ} {up up_now : Type 0} (was_up : up) (is_up : up_now) (calls : m ≡ n + 1) where
   -- it is refused by the tests that it begins with
   pub opens_unfit : {why : Refusal} (result : Result Reply CallError) → IsErrAnd result (λ e. e ≡ Refused why) → Refuses parts.session front why → IsCallOf (engine_view parts n up) (engine_view parts m up_now) call result
   opens_unfit {why = why} result is bad = refused_early result is was_up is_up calls bad.1 (λ told state shows. opening.unfit state why (bad.0 told state shows))
@@ -210,7 +210,7 @@ module _ {parts : RssParts} {t : ℕ} {front : State → Option Refusal} {along 
 
 -- ---- a scan that is open
 
-module _ {parts : RssParts} (t number : ℕ) (opened : Says parts.session (λ state. unless_open state t) None) {n m : ℕ} {up up_now : Type 0} (was_up : up) (is_up : up_now) (calls : m ≤ n + 1) where
+module _ {parts : RssParts} (t number : ℕ) (opened : Says parts.session (λ state. unless_open state t) None) {n m : ℕ} {up up_now : Type 0} (was_up : up) (is_up : up_now) (calls : m ≡ n + 1) where
   -- there is none
   module _ (none : cursor_of parts.scans t number ≡ None) (why : CallError) (is : why ≡ Refused (NoSuch ScanKind)) where
     pub next_lacks : IsCallOf (engine_view parts n up) (engine_view parts m up_now) (Next t number) (Err why)

@@ -88,4 +88,4 @@ module _ (parts : RssParts) (t : ℕ) (relation : Name) (tid : Tid) (values : Li
         }
 
     pub update_ends : EndsByChange parts (granted t list parts.locks.locks) t (UpdateRecord number tid from to) (Update t relation tid values) Done
-    update_ends = record { last = last_of; short = omega arith; may = may_update }
+    update_ends = record { last = last_of; short = omega arith; may = may_update; saves = refl }

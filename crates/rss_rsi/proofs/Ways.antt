@@ -1,12 +1,13 @@
 -- The ways in which a call of an engine over a session ends.
-use Rattle.std.proofs.Common.{◌≡◌, inl, List, [], ℕ, ◌+◌, ◌^◌, ◌≤◌, length, Option, Some, None, arith, refl, sym, ◌∙◌, ap, subst}
-use Rattle.std.specs.Prelude.{Bool, true, false, if◌then◌else◌, Result, Err, is_some, IsErrAnd, IsErrOf}
+use Rattle.std.proofs.Common.{◌≡◌, ◌⊎◌, inl, inr, List, [], ℕ, ◌+◌, ◌^◌, ◌≤◌, length, Option, Some, None, arith, refl, sym, ◌∙◌, ap, subst}
+use Rattle.std.specs.Prelude.{Bool, true, false, if◌then◌else◌, Result, Err, is_some, IsOk, IsErrAnd, IsErrOf}
 use Rattle.std.specs.FinMap.{FinMap, get}
 use Rattle.std.specs.Ordering.{nat_cmp}
-use Rattle.std.proofs.lemmas.Bool.{cond-false}
+use Rattle.std.proofs.lemmas.Bool.{cond-false, true≢false}
 use Rattle.std.proofs.lemmas.Result.{err_from_is_err_and}
 use Rattle.rss_base.specs.DiskRule.{IsTold, Passes, Continues}
-use Rattle.rss_base.specs.Steps.{PagesView}
+use Rattle.rss_base.specs.Devices.{DrivesOut}
+use Rattle.rss_base.specs.Steps.{PagesView, driven}
 use Rattle.rss_base.specs.Answers.{page_error}
 use Rattle.rss_base.specs.declared.call.Call.{Call}
 use Rattle.rss_base.specs.declared.call.Call.TheVariants.{End}
@@ -20,11 +21,12 @@ use Rattle.rss_base.specs.declared.need.Mode.{Mode}
 use Rattle.rss_base.specs.declared.need.Need.{Need}
 use Rattle.rss_base.specs.declared.place.Place.{Place}
 use Rattle.rss_base.specs.declared.refusal.Refusal.{Refusal}
-use Rattle.rss_base.proofs.Moments.{started, widened}
+use Rattle.rss_base.specs.declared.root.Root.{Root}
+use Rattle.rss_base.proofs.Moments.{started, widened, drives_nothing}
 use Rattle.rss_lock.specs.Table.{told}
 use Rattle.rss_lock.specs.declared.locks.Locks.{Locks as LockTable}
-use Rattle.rss_stored.specs.Calls.{EngineView, MayWrite, GoesOn, GetsPlace, IsAnswer, IsCallOf}
-use Rattle.rss_model.specs.Costs.{RisesAtMost, most_asks, most_writes, may_lack_memory}
+use Rattle.rss_stored.specs.Calls.{EngineView, TakesNone, MayWrite, GoesOn, GetsPlace, IsAnswer, IsCallOf}
+use Rattle.rss_model.specs.Costs.{RisesAtMost, most_asks, most_writes, may_save, may_lack_memory}
 use Rattle.rss_model.specs.Locks.{Locks, held, granted, released}
 use Rattle.rss_model.specs.Machine.{State, now}
 use Rattle.rss_model.specs.Needs.{needs}
@@ -49,7 +51,7 @@ use Rattle.rss_session.specs.declared.session.Session.{Session}
 use Rattle.rss_session.specs.Sessions.{SessionView}
 use Rattle.rss_session.specs.Sessions.{IsReady as IsSessionReady}
 use Rattle.rss_session.specs.Calls.{Appends, KeepsTables, NoMoreSaves, StayOpen, StaysListed, OthersStayOpen}
-use Rattle.rss_session.specs.Calls.{GoesOn as SessionGoesOn}
+use Rattle.rss_session.specs.Calls.{GoesOnIf, TakesNoCheckpoint}
 use Rattle.rss_session.specs.Shown.{Shows}
 use Rattle.rss_store.specs.Stores.{StoreView}
 use Rattle.rss_store.specs.Shown.{HoldsTables}
@@ -140,33 +142,49 @@ left_bare {state = state} call why none is_in = so (keeps_locks why) (caller cal
 
 -- ---- what goes on
 
+-- where no bound is claimed
+pub rises_any : {most : Option ℕ} (before now : ℕ) → most ≡ None → RisesAtMost most before now
+rises_any before now none = subst (λ (most : Option ℕ). RisesAtMost most before now) (sym none) tt
+
 -- with what the call costs
-pub goes : {T : Type 0} {old new : RssParts} {n m : ℕ} {up up_now : Type 0} {call : Call} (result : Result T PageFault) → SessionGoesOn old.session new.session result → m ≤ n + 1
+pub goes : {T : Type 0} {still : Type 0} {old new : RssParts} {n m : ℕ} {up up_now : Type 0} {call : Call} (result : Result T PageFault) → GoesOnIf still old.session new.session result → m ≡ n + 1
     → RisesAtMost (most_asks call) old.session.store.pages.asks new.session.store.pages.asks → MayWrite (engine_view old n up) (engine_view new m up_now) call
-    → GoesOn (engine_view old n up) (engine_view new m up_now) call
-goes result on calls asks writes = record {
+    → (may_save call ≡ false → new.session.store.root.checkpoint ≡ old.session.store.root.checkpoint) → GoesOn (engine_view old n up) (engine_view new m up_now) call
+goes result on calls asks writes saves = record {
   asks = asks;
   writes = writes;
-  calls = calls;
+  saves = saves;
+  calls = omega (arith, calls);
+  counted = λ was. calls;
   slots = on.slots;
   told = on.told.0;
   history = on.history;
   later = on.later;
 }
 
--- with what a call costs that is no end
-pub goes_bounded : {T : Type 0} {old new : RssParts} {n m : ℕ} {up up_now : Type 0} {call : Call} (result : Result T PageFault) → ((t : ℕ) → call ≡ End t → ⊥) → SessionGoesOn old.session new.session result → m ≤ n + 1
+-- with what a call costs that is no end, and that saves nothing if it takes no checkpoint
+pub goes_bounded : {T : Type 0} {still : Type 0} {old new : RssParts} {n m : ℕ} {up up_now : Type 0} {call : Call} (result : Result T PageFault) → ((t : ℕ) → call ≡ End t → ⊥) → GoesOnIf still old.session new.session result → m ≡ n + 1
     → RisesAtMost (most_asks call) old.session.store.pages.asks new.session.store.pages.asks → RisesAtMost (most_writes call) old.session.store.pages.writes new.session.store.pages.writes
-    → GoesOn (engine_view old n up) (engine_view new m up_now) call
-goes_bounded {old = old} {new = new} {n = n} {m = m} {up = up} {up_now = up_now} {call = call} result other on calls asks writes =
-    goes result on calls asks (writes_bound (engine_view old n up) (engine_view new m up_now) call other writes)
+    → (TakesNone (engine_view old n up) (engine_view new m up_now) call → still) → GoesOn (engine_view old n up) (engine_view new m up_now) call
+goes_bounded {old = old} {new = new} {n = n} {m = m} {up = up} {up_now = up_now} {call = call} result other on calls asks writes is =
+    goes result on calls asks (writes_bound (engine_view old n up) (engine_view new m up_now) call other (record { most = writes; drives = λ none. (on.unsaved (is none)).drives }))
+    (λ never. ap (λ (r : Root). r.checkpoint) (on.unsaved (is (inl never))).root)
+
+-- A call that may take a checkpoint takes none only if the call of the session came to its end, and the last checkpoint is the one before it.
+pub none_taken : {T : Type 0} (old new : SessionView) (call : Call) (up_now : Type 0) (result : Result T PageFault) → may_save call ≡ true → (up_now → IsOk result)
+    → (may_save call ≡ false) ⊎ (up_now × (new.store.root.checkpoint ≡ old.store.root.checkpoint)) → TakesNoCheckpoint old new result
+none_taken old new call up_now result may is_ok (inl never) = absurd (true≢false (sym may ∙ never))
+none_taken old new call up_now result may is_ok (inr none) = (is_ok none.0, none.1)
 
 -- of the store nothing has changed
-pub goes_nowhere : {old new : RssParts} {n m : ℕ} {up up_now : Type 0} (call : Call) → new.session.store ≡ old.session.store → m ≤ n + 1 → GoesOn (engine_view old n up) (engine_view new m up_now) call
+pub goes_nowhere : {old new : RssParts} {n m : ℕ} {up up_now : Type 0} (call : Call) → new.session.store ≡ old.session.store → m ≡ n + 1 → GoesOn (engine_view old n up) (engine_view new m up_now) call
 goes_nowhere {old = old} {new = new} {n = n} {m = m} {up = up} {up_now = up_now} call same calls = record {
   asks = within_most (most_asks call) 0 old.session.store.pages.asks _ (none_within (most_asks call)) (omega (arith, ap (λ (s : StoreView). s.pages.asks) same));
-  writes = writes_no_more (engine_view old n up) (engine_view new m up_now) call (ap (λ (s : StoreView). s.pages.disk) same) (ap (λ (s : StoreView). s.pages.writes) same);
-  calls = calls;
+  writes = writes_no_more (engine_view old n up) (engine_view new m up_now) call (ap (λ (s : StoreView). s.pages.disk) same) (ap (λ (s : StoreView). s.pages.writes) same)
+      (subst (λ (s : StoreView). DrivesOut (driven old.session.store.pages) (driven s.pages)) (sym same) (drives_nothing (driven old.session.store.pages)));
+  saves = λ never. ap (λ (s : StoreView). s.root.checkpoint) same;
+  calls = omega (arith, calls);
+  counted = λ was. calls;
   slots = ap (λ (s : StoreView). s.root.slots) same;
   told = λ told. subst (λ (s : StoreView). IsTold s.pages.disk) (sym same) told;
   history = λ told. subst (λ (s : StoreView). Continues old.session.store.pages.disk s.pages.disk) (sym same) (started old.session.store.pages.disk _);
@@ -308,7 +326,7 @@ ready_gone {old = old} {new = new} t ready counted few session appends saves oth
 -- ---- whole calls
 
 -- Refused at once by a test of the session, with the locks that the refusal leaves.
-pub refused_alike : {parts : RssParts} {n m : ℕ} {up up_now : Type 0} {call : Call} {why : Refusal} (result : Result Reply CallError) → IsErrAnd result (λ e. e ≡ Refused why) → up → up_now → m ≤ n + 1 → IsShort (Err why)
+pub refused_alike : {parts : RssParts} {n m : ℕ} {up up_now : Type 0} {call : Call} {why : Refusal} (result : Result Reply CallError) → IsErrAnd result (λ e. e ≡ Refused why) → up → up_now → m ≡ n + 1 → IsShort (Err why)
     → (IsTold parts.session.store.pages.disk → (state : State) → IsIn parts state → (refusal state call ≡ Some why) × ((left_by state call why).locks ≡ parts.locks.locks)) → IsCallOf (engine_view parts n up) (engine_view parts m up_now) call result
 refused_alike {parts = parts} {n = n} {m = m} {up = up} {up_now = up_now} {call = call} {why = why} result is was_up is_up calls short refused =
     let so = err_from_is_err_and result is in
@@ -316,13 +334,13 @@ refused_alike {parts = parts} {n = n} {m = m} {up = up} {up_now = up_now} {call 
     (comes_to was_up (goes_nowhere call refl calls) (refused_by is_up short (λ told state is_in. let so = refused told state is_in in (so.0, in_left call is_in so.0 is_in.shows so.1 refl, started _ _))))
 
 -- The call needs no locks.
-pub refused_test : {parts : RssParts} {n m : ℕ} {up up_now : Type 0} {call : Call} {why : Refusal} (result : Result Reply CallError) → IsErrAnd result (λ e. e ≡ Refused why) → up → up_now → m ≤ n + 1 → IsShort (Err why) → NeedsNone call
+pub refused_test : {parts : RssParts} {n m : ℕ} {up up_now : Type 0} {call : Call} {why : Refusal} (result : Result Reply CallError) → IsErrAnd result (λ e. e ≡ Refused why) → up → up_now → m ≡ n + 1 → IsShort (Err why) → NeedsNone call
     → (IsTold parts.session.store.pages.disk → (state : State) → Shows parts.session state → refusal state call ≡ Some why) → IsCallOf (engine_view parts n up) (engine_view parts m up_now) call result
 refused_test {call = call} {why = why} result is was_up is_up calls short none refused =
     refused_alike result is was_up is_up calls short (λ told state is_in. (refused told state is_in.shows, left_bare call why (none (now state)) is_in))
 
 -- Or the refusal keeps none.
-pub refused_early : {parts : RssParts} {n m : ℕ} {up up_now : Type 0} {call : Call} {why : Refusal} (result : Result Reply CallError) → IsErrAnd result (λ e. e ≡ Refused why) → up → up_now → m ≤ n + 1 → IsShort (Err why)
+pub refused_early : {parts : RssParts} {n m : ℕ} {up up_now : Type 0} {call : Call} {why : Refusal} (result : Result Reply CallError) → IsErrAnd result (λ e. e ≡ Refused why) → up → up_now → m ≡ n + 1 → IsShort (Err why)
     → (IsTold parts.session.store.pages.disk → (state : State) → Shows parts.session state → (refusal state call ≡ Some why) × (keeps_locks why ≡ false)) → IsCallOf (engine_view parts n up) (engine_view parts m up_now) call result
 refused_early {call = call} {why = why} result is was_up is_up calls short refused =
     refused_alike result is was_up is_up calls short (λ told state is_in. let so = refused told state is_in.shows in (so.0, left_same call why so.1 is_in))
@@ -364,13 +382,13 @@ lacks_behind may was_up is_up goes keeps shows held = comes_to was_up goes (reco
 })
 
 -- It ran out before the store was touched.
-pub lacks_memory : {old new : RssParts} {n m : ℕ} {up up_now : Type 0} (call : Call) → may_lack_memory call ≡ true → up → up_now → new.session.store ≡ old.session.store → m ≤ n + 1
+pub lacks_memory : {old new : RssParts} {n m : ℕ} {up up_now : Type 0} (call : Call) → may_lack_memory call ≡ true → up → up_now → new.session.store ≡ old.session.store → m ≡ n + 1
     → ((state : State) → Shows old.session state → Shows new.session state) → SameHeld old new → IsCallOf (engine_view old n up) (engine_view new m up_now) call (Err NoMemory)
 lacks_memory {old = old} {new = new} call may was_up is_up same calls shows held = lacks_behind may was_up is_up (goes_nowhere call same calls) (keeps_same old.session new.session same) (λ told. shows) held
 
 -- By a fault of a call of the session, within a step that was on its way.
-pub failed_within : {T : Type 0} {old new : RssParts} {n m : ℕ} {up up_now : Type 0} {call : Call} {fault : PageFault} (result : Result Reply CallError) → IsErrAnd result (λ e. e ≡ page_error fault) → up → (up_now → ⊥)
-    → SessionGoesOn {T = T} old.session new.session (Err fault) → GoesOn (engine_view old n up) (engine_view new m up_now) call
+pub failed_within : {T : Type 0} {still : Type 0} {old new : RssParts} {n m : ℕ} {up up_now : Type 0} {call : Call} {fault : PageFault} (result : Result Reply CallError) → IsErrAnd result (λ e. e ≡ page_error fault) → up → (up_now → ⊥)
+    → GoesOnIf {T = T} still old.session new.session (Err fault) → GoesOn (engine_view old n up) (engine_view new m up_now) call
     → ((place : Place) → ◌≡◌ {A = Result T PageFault} (Err fault) (Err (PageDamaged place)) → IsTold old.session.store.pages.disk → (state : State) → IsIn old state → ⊥)
     → (IsTold old.session.store.pages.disk → (state : State) → IsIn old state → IsStopped old.session.store.pages.disk new.session.store.pages.disk state call)
     → IsCallOf (engine_view old n up) (engine_view new m up_now) call result
@@ -382,12 +400,12 @@ failed_within result is was_up down on goes sound stopped = failed result is was
 })
 
 -- such a fault is none of memory
-pub fault_of_memory : {T : Type 0} {old new : SessionView} {fault : PageFault} (result : Result Reply CallError) → IsErrAnd result (λ e. e ≡ page_error fault) → SessionGoesOn {T = T} old new (Err fault) → IsErrOf result NoMemory → ⊥
-fault_of_memory {T = T} {old = old} {new = new} {fault = fault} result is on of =
+pub fault_of_memory : {T : Type 0} {still : Type 0} {old new : SessionView} {fault : PageFault} (result : Result Reply CallError) → IsErrAnd result (λ e. e ≡ page_error fault) → GoesOnIf {T = T} still old new (Err fault) → IsErrOf result NoMemory → ⊥
+fault_of_memory {T = T} {still = still} {old = old} {new = new} {fault = fault} result is on of =
     let why = err_from_is_err_and result is in
     by fault on (sym (why.1 ∙ ap Err why.2) ∙ of)
   where
-    by : (fault : PageFault) → SessionGoesOn {T = T} old new (Err fault) → ◌≡◌ {A = Result Reply CallError} (Err (page_error fault)) (Err NoMemory) → ⊥
+    by : (fault : PageFault) → GoesOnIf {T = T} still old new (Err fault) → ◌≡◌ {A = Result Reply CallError} (Err (page_error fault)) (Err NoMemory) → ⊥
     by PageDevice on same = absurd (cc (same))
     by (PageDamaged place) on same = absurd (cc (same))
     by PageNoMemory on same = on.memory refl

@@ -13,7 +13,7 @@ use Rattle.rss_model.specs.ReplyText.{IsShort}
 use Rattle.rss_model.specs.Rules.{if_no_room}
 use Rattle.rss_session.specs.Sessions.{SessionView}
 use Rattle.rss_session.specs.Shown.{Shows}
-use Rattle.rss_session.specs.Calls.{GoesOn, KeepsTables, Makes, MayNotMake}
+use Rattle.rss_session.specs.Calls.{GoesOnIf, KeepsTables, Makes, MayNotMake}
 use Rattle.rss_rsi.specs.Views.{RssParts, IsReady}
 
 -- A call is being made, the one of this number: before it another call could be made.
@@ -60,8 +60,8 @@ ChangeEnds old new up t told_change (Err (Damaged place)) =
 ChangeEnds old new up t told_change (Err NoMemory) = up × StillShows old new
 ChangeEnds old new up t told_change (Err Down) = ⊥
 
--- A change, by its result. Whatever came of it, a stop leaves the committed tables at each moment.
+-- A change, by its result. Whatever came of it, a stop leaves the committed tables at each moment. Where the engine is up and no checkpoint was taken nothing is saved.
 pub record IsChangeOf {T : Type 0} (old new : SessionView) (up : Type 0) (t : ℕ) (told_change : told.Change) (result : Result T CallError) : Type 0 where
   pub ends : ChangeEnds old new up t told_change result
   pub moments : KeepsTables old new
-  pub goes : GoesOn {T = ⊤} old new (Ok tt)
+  pub goes : GoesOnIf {T = ⊤} (up × (new.store.root.checkpoint ≡ old.store.root.checkpoint)) old new (Ok tt)

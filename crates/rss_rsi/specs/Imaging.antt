@@ -1,5 +1,5 @@
 -- What a call that makes an image, or takes one away, has done before it is committed; and how a search for its entries ends.
-use Rattle.std.specs.Prelude.{◌≡◌, ℕ, ◌+◌, ◌<◌, Some, None, Result, Ok, Err}
+use Rattle.std.specs.Prelude.{◌≡◌, ℕ, ◌+◌, ◌<◌, true, Some, None, Result, Ok, Err}
 use Rattle.std.specs.FinMap.{empty}
 use Rattle.rss_base.specs.DiskRule.{IsTold}
 use Rattle.rss_base.specs.Steps.{PagesView}
@@ -9,7 +9,7 @@ use Rattle.rss_base.specs.declared.call.Call.{Call}
 use Rattle.rss_base.specs.declared.fault.PageFault.TheVariants.{Device as DeviceFailed, Damaged as PageDamaged}
 use Rattle.rss_stored.specs.Calls.{calls_most}
 use Rattle.rss_model.specs.Callers.{caller}
-use Rattle.rss_model.specs.Costs.{most_asks, most_writes}
+use Rattle.rss_model.specs.Costs.{most_asks, most_writes, may_save}
 use Rattle.rss_model.specs.Defining.{defined, DefinesNames}
 use Rattle.rss_model.specs.Kept.{Kept}
 use Rattle.rss_model.specs.Machine.{State}
@@ -44,11 +44,12 @@ pub record IsRelisted (call : Call) (old new : SessionView) : Type 0 where
   pub redefines : IsTold old.store.pages.disk → (state : State) → Kept state → Shows old state
       → MayRedefine state call new
 
--- no bound is claimed of what the call costs, and it is no transaction's
+-- No bound is claimed of what the call costs. It is no transaction's, and may take a checkpoint.
 pub record CostsAny (call : Call) : Type 0 where
   pub of_none : caller call ≡ None
   pub asks : most_asks call ≡ None
   pub writes : most_writes call ≡ None
+  pub saves : may_save call ≡ true
 
 -- The call is counted, and its session lists what it defines. Locks and scans are as they were.
 pub record IsListed {S : Type 0} (pages_view : S → PagesView) (to : Definition S) (session : Session S) (locks : LocksView) (scans : OpenScans) (calls : ℕ) : Type 0 where

@@ -11,3 +11,4 @@ pub mod Looking
 pub mod Placing
 pub mod Scanning
 pub mod Linking
+pub mod Bodies

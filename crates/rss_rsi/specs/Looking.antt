@@ -43,7 +43,7 @@ asked_for calls view = record view { calls = calls }
 -- each call of such calls comes to this result, where it alone was counted before
 abbrev pub EndsEach : (Call → Type 0) → EngineView → EngineView → Result Reply CallError → Type 0
 EndsEach Is old new result =
-    (calls : ℕ) (call : Call) → old.calls ≤ calls + 1 → Is call
+    (calls : ℕ) (call : Call) → old.calls ≡ calls + 1 → Is call
     → IsCallOf (asked_for calls old) new call result
 
 -- a call that a fault of the pages or want of memory may end

@@ -24,7 +24,7 @@ pub record IsOpened (old : DeviceView) (new : EngineView) : Type 0 where
   pub none_asked : new.calls ≡ 0
   pub unbroken : (place : Place) → Told old.disk (λ pages. IsBrokenAt place pages → ⊥)
   pub not_overfull : Told old.disk (λ pages. IsOverfull pages → ⊥)
-  pub not_spent : Told old.disk (λ pages. (place : Place) → IsSpent pages place → ⊥)
+  pub not_spent : Told old.disk (λ pages. IsSpent pages → ⊥)
   pub tables : Told old.disk HasTables
 
 -- It stands on the device as the opening left it.

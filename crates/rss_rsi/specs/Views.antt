@@ -2,6 +2,7 @@
 use Rattle.std.specs.Prelude.{◌≡◌, ℕ, ◌+◌, ◌*◌, ◌^◌, ◌≤◌, true, List, [], length, replicate, All, Option, Some, None, IfSome, option_map, ⊤}
 use Rattle.std.specs.FinMap.{get}
 use Rattle.rss_base.specs.Listings.{Listing, IsNumberOf, IsUnlisted, relation_at}
+use Rattle.rss_base.specs.Paged.{IsUnfixed}
 use Rattle.rss_base.specs.Steps.{PagesView}
 use Rattle.rss_base.specs.Prefixes.{prefix_size}
 use Rattle.rss_base.specs.TupleTypes.{kinds, misfit, key_width, key_bytes, tuple_bytes, IsStorable}
@@ -132,6 +133,9 @@ engine_view parts calls is_up = record {
   asks = parts.session.store.pages.asks;
   writes = parts.session.store.pages.writes;
   faults = parts.session.store.pages.faults;
+  outs = parts.session.store.pages.outs;
+  free = IsUnfixed parts.session.store.pages.fixed;
+  saved = parts.session.store.root.checkpoint;
   end_places = IsEndPlace parts.session.store.number parts.session.store.root (end_after parts);
   end_most = new_pieces parts.session.store.root (end_after parts) + 2;
 }

@@ -1,15 +1,12 @@
 // What is counted of a store.
-ghost use Rattle.std.specs.Prelude.{◌≡◌, ◌-◌, ◌^◌, min, is_some, IfSome, IfNone};
+ghost use Rattle.std.specs.Prelude.{◌≡◌, is_some, IfSome, IfNone};
 ghost use Rattle.std.specs.FinMap.{get};
 ghost use Rattle.rss_base.specs.Listings.{IsUnlisted};
 ghost use Rattle.rss_base.specs.Paged.{mapped_pages};
 ghost use Rattle.rss_base.specs.declared.refusal.Kind.TheVariants.{Image as ImageKind};
 ghost use Rattle.rss_access.specs.Written.{heap_now};
-ghost use Rattle.rss_log.specs.Logs.{free_of};
 ghost use Rattle.rss_model.specs.Machine.{State};
 ghost use Rattle.rss_model.specs.Meter.{room_number, log_room};
-ghost use Rattle.rss_session.specs.Sessions.{counts};
-ghost use Rattle.rss_session.specs.Weighing.{room_of};
 ghost use Rattle.rss_rsi.specs.Scanning.{IsOfLevels};
 
 use crate::Rss;
@@ -57,22 +54,19 @@ impl<S: Saving> Rss<S> {
         Some(catalog.image(number).levels)
     }
 
-    /// How many slots may be needed, by the rule of room: a change is refused where one more might
-    /// need more than there are.
+    /// How many slots may be needed, by the rule of room, as each state counts them that is shown: a
+    /// change is refused where one more might need more than there are.
     pub fn room(&self) -> u64
-        ensures room { result ≡ min (room_of (session_of self.now).heap
-            (session_of self.now).surviving (session_of self.now).opened.since
-            (counts (session_of self.now)).images) (2 ^ 64 - 1) }
-        ensures states { (state : State) → (view self.now).shows state
+        ensures { (state : State) → (view self.now).shows state
             → result ≡ room_number state.base.definitions state.meter }
     {
         self.session.room()
     }
 
-    /// How many bytes the log has room for. That is what a state counts, where the store isn't down.
+    /// How many bytes the log has room for, as each state counts them that is shown, if the store isn't
+    /// down.
     pub fn log_free(&self) -> u64
-        ensures free { result ≡ free_of (session_of self.now).store.log }
-        ensures states { (view self.now).is_up → (state : State) → (view self.now).shows state
+        ensures { (view self.now).is_up → (state : State) → (view self.now).shows state
             → result ≡ log_room state.size.log_pages state.meter }
     {
         self.session.store.log_free()

@@ -26,7 +26,7 @@ impl<S: Saving> Rss<S> {
     /// Nothing is changed, and the call that puts the tuple is refused where none is free.
     ///
     /// What others hold is asked for the identifier that is chosen, and gathered only where they hold
-    /// that one.
+    /// that one. Nothing is asked where they hold nothing.
     pub(crate) fn place_for(
         &mut self,
         transaction: u32,
@@ -49,11 +49,14 @@ impl<S: Saving> Rss<S> {
             (view self.old) (view self.new) (Err why)) }
     {
         let segment = self.session.store.catalog.relation(number).segment;
-        let Ok(names) = self.session.store.catalog.relations_in(self.alloc, segment) else {
-            return Err(CallError::NoMemory);
-        };
         let Some(first) = self.choose(segment, length, &[])? else {
             return Err(none_free());
+        };
+        if self.locks.is_alone(transaction) {
+            return Ok(first);
+        }
+        let Ok(names) = self.session.store.catalog.relations_in(self.alloc, segment) else {
+            return Err(CallError::NoMemory);
         };
         if !self.is_held(transaction, &names, first) {
             return Ok(first);

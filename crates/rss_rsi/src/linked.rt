@@ -19,9 +19,7 @@ ghost use Rattle.rss_rsi.specs.Linking.{TestEnds, passes_all, if_placed, connect
 
 use crate::Rss;
 use crate::looking::no_tuple;
-use rss_base::{
-    Body, CallError, Name, Need, PAGE_ENTRIES, Place, Refusal, Spot, Tid, name_is_whole,
-};
+use rss_base::{CallError, Name, Need, PAGE_ENTRIES, Place, Refusal, Spot, Tid, name_is_whole};
 use rss_buffer::Saving;
 use rss_members::Membership;
 
@@ -165,14 +163,13 @@ impl<S: Saving> Rss<S> {
         if usize::from(tid.slot) >= PAGE_ENTRIES {
             return Err(no_tuple(&name, tid));
         }
-        let mut body = Body::new();
         self.down = true;
-        let there = self.session.look(segment, number, tid, &mut body)?;
+        let found = self.session.look(segment, number, tid)?;
         self.down = false;
-        if !there {
-            return Err(no_tuple(&name, tid));
+        match found {
+            Some(_) => Ok(()),
+            None => Err(no_tuple(&name, tid)),
         }
-        Ok(())
     }
 
     /// The tuple stands in no chain of the link.

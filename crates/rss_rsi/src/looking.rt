@@ -1,22 +1,28 @@
 // What the calls on a tuple that is there begin with.
-ghost use Rattle.std.specs.Prelude.{◌≡◌, true, false, Some, None, Err, is_some, option_copied, option_to_list, IfOk, IfErr, IfSome, OnOk};
+ghost use Rattle.std.specs.Prelude.{◌≡◌, true, false, Some, None, Err, is_some, option_copied, option_to_list, IfOk, IfErr, IfSome, OnOk, IsErrOf};
 ghost use Rattle.rss_base.specs.Listings.{IsNumberOf, relation_at};
-ghost use Rattle.rss_base.specs.declared.answer.CallError.TheVariants.{Refused, Damaged};
+ghost use Rattle.rss_base.specs.declared.answer.CallError.TheVariants.{Refused, NoMemory};
 ghost use Rattle.rss_base.specs.declared.place.Place.TheVariants.{Tuple as TuplePlace};
 ghost use Rattle.rss_base.specs.declared.refusal.Kind.TheVariants.{Relation as RelationKind};
 ghost use Rattle.rss_base.specs.declared.refusal.Refusal.TheVariants.{NoTuple};
 ghost use Rattle.rss_model.specs.ReplyText.{IsShort};
 ghost use Rattle.rss_trans.specs.Transactions.{is_open};
 ghost use Rattle.rss_rsi.specs.Locking.{MayBeOf};
-ghost use Rattle.rss_rsi.specs.Looking.{MayLook, LooksFor, LooksUp, FindsHeld, FindsAny, EndsEach};
+ghost use Rattle.rss_base.specs.TupleTypes.{kinds};
+ghost use Rattle.rss_base.specs.declared.relation.RelationEntry.{RelationEntry as AnyEntry};
+ghost use Rattle.rss_session.specs.Looks.{CostsNothing};
+ghost use Rattle.rss_tuple.specs.Located.{IsInMemory};
+ghost use Rattle.rss_rsi.specs.Looking.{MayLook, LooksFor, LooksUp, FindsHeld, FindsAny, EndsEach, CostsTwo};
+ghost use Rattle.rss_rsi.specs.Bodies.{StandsThere, ComesOf, TupleComes, IsDownBy};
 
 use crate::Rss;
 use crate::locking::Access;
-use rss_access::tuple_of;
-use rss_base::{
-    Body, CallError, Name, Need, PAGE_ENTRIES, Place, Refusal, Tid, Tuple, name_is_whole,
-};
+use rss_access::{made_of, spelled_in};
+use rss_base::{CallError, Name, Need, PAGE_ENTRIES, Place, Refusal, Tid, Tuple, name_is_whole};
 use rss_buffer::Saving;
+use rss_catalog::Catalog;
+use rss_tuple::BodyAt;
+use std::alloc::Global;
 
 /// A tuple, and the locks that the call needs that looks for it.
 #[derive(Drop)]
@@ -92,34 +98,117 @@ impl<S: Saving> Rss<S> {
             return Ok(None);
         }
         let segment = self.session.store.catalog.relation(number).segment;
-        let mut body = Body::new();
         self.down = true;
-        let there = self.session.look(segment, number, tid, &mut body)?;
+        let found = self.session.look(segment, number, tid)?;
         self.down = false;
-        if !there {
+        let Some(at) = found else {
             return Ok(None);
-        }
-        let catalog = &self.session.store.catalog;
-        let Ok(read) = tuple_of(self.alloc, catalog, number, body.as_slice()) else {
-            return Err(CallError::NoMemory);
         };
-        self.down = true;
-        let tuple = test_read(read, segment, tid)?;
-        self.down = false;
+        let tuple = self.tuple_at(number, segment, tid, at)?;
         Ok(Some(tuple))
+    }
+
+    /// Where the body of the tuple with this identifier stands, which the relation of this number has,
+    /// in this segment. It takes no memory. Its one error beside those of the pages is damage at the
+    /// tuple, where there is none: only a device that doesn't tell its contents lacks it.
+    pub(crate) fn there(&mut self, number: u8, segment: u8, tid: Tid) -> Result<BodyAt, CallError>
+        requires up { self.old.down ≡ false }
+        ensures calls { self.new.calls ≡ self.old.calls }
+        ensures locks { self.new.locks ≡ self.old.locks }
+        ensures scans { self.new.scans ≡ self.old.scans }
+        ensures ends { StandsThere (session_of self.old) (session_of self.new)
+            (self.new.down ≡ false) segment number tid result }
+        ensures memory { IsErrOf result NoMemory → ⊥ }
+        ensures costs { CostsTwo (session_of self.old) (session_of self.new) }
+        ensures idle { CostsNothing (session_of self.old) (session_of self.new) }
+    {
+        self.down = true;
+        let Some(at) = self.session.look(segment, number, tid)? else {
+            return Err(CallError::Damaged(Place::Tuple(segment, tid)));
+        };
+        self.down = false;
+        Ok(at)
+    }
+
+    /// The tuple of the relation of this number, in this segment, whose body stands there. It touches
+    /// no page.
+    pub(crate) fn tuple_at(
+        &mut self,
+        number: u8,
+        segment: u8,
+        tid: Tid,
+        at: BodyAt,
+    ) -> Result<Tuple, CallError>
+        requires up { self.old.down ≡ false }
+        requires known { is_some (relation_at (session_of self.old).store.catalog.listing number)
+            ≡ true }
+        requires there { IsInMemory (session_of self.old).store.pages at }
+        ensures session { self.new.session ≡ self.old.session }
+        ensures calls { self.new.calls ≡ self.old.calls }
+        ensures locks { self.new.locks ≡ self.old.locks }
+        ensures scans { self.new.scans ≡ self.old.scans }
+        ensures comes { (relation : AnyEntry)
+            → relation_at (session_of self.old).store.catalog.listing number ≡ Some relation
+            → TupleComes (session_of self.old) number relation (TuplePlace segment tid) at result }
+        ensures ends { IsDownBy result self.new.down }
+    {
+        let read = self.read_at(number, segment, tid, at);
+        self.down = is_damage(&read);
+        read
+    }
+
+    /// The same, where nothing is said of whether the engine goes down.
+    fn read_at(&self, number: u8, segment: u8, tid: Tid, at: BodyAt) -> Result<Tuple, CallError>
+        requires known { is_some (relation_at (session_of self.now).store.catalog.listing number)
+            ≡ true }
+        requires there { IsInMemory (session_of self.now).store.pages at }
+        ensures { (relation : AnyEntry)
+            → relation_at (session_of self.now).store.catalog.listing number ≡ Some relation
+            → TupleComes (session_of self.now) number relation (TuplePlace segment tid) at result }
+    {
+        let catalog = &self.session.store.catalog;
+        let body = self.session.body(at);
+        tuple_in(self.alloc, catalog, number, segment, tid, body)
     }
 }
 
-/// The body at this identifier is that of a tuple. Only a device that doesn't tell its contents gives
-/// one that isn't.
-pub(crate) fn test_read(read: Option<Tuple>, segment: u8, tid: Tid) -> Result<Tuple, CallError>
-    ensures some { IfOk result (λ tuple. read ≡ Some tuple) }
-    ensures damaged { IfErr result (λ why. (why ≡ Damaged (TuplePlace segment tid))
-        × (read ≡ None)) }
+/// The tuple of the relation of this number, in this segment, that a body is of. Where it is of none,
+/// that is damage at the tuple: only a device that doesn't tell its contents has such a body.
+fn tuple_in(
+    alloc: Global,
+    catalog: &Catalog,
+    number: u8,
+    segment: u8,
+    tid: Tid,
+    body: &[u8],
+) -> Result<Tuple, CallError>
+    requires { is_some (relation_at catalog.now.listing number) ≡ true }
+    ensures { (relation : AnyEntry) → relation_at catalog.now.listing number ≡ Some relation
+        → ComesOf catalog.now.listing number (kinds relation.fields) (TuplePlace segment tid)
+        body.now result }
+{
+    let fields = catalog.relation(number).fields.as_slice();
+    let Some(bytes) = spelled_in(catalog, number, fields, body) else {
+        return Err(CallError::Damaged(Place::Tuple(segment, tid)));
+    };
+    match made_of(alloc, fields, bytes) {
+        Ok(tuple) => Ok(tuple),
+        Err(_) => Err(CallError::NoMemory),
+    }
+}
+
+/// Whether a tuple isn't read since something is damaged.
+fn is_damage(read: &Result<Tuple, CallError>) -> bool
+    ensures { IsDownBy read.now result }
 {
     match read {
-        Some(tuple) => Ok(tuple),
-        None => Err(CallError::Damaged(Place::Tuple(segment, tid))),
+        Ok(_) => false,
+        Err(why) => match why {
+            CallError::Damaged(_) => true,
+            CallError::Refused(_) | CallError::Device | CallError::NoMemory | CallError::Down => {
+                false
+            }
+        },
     }
 }
 

@@ -19,7 +19,8 @@ use std::alloc::Global;
 /// to those that the log recovers, and takes a checkpoint of them, unless the store is at rest; then
 /// it writes nothing. No transaction is open.
 ///
-/// The device is handed back where it holds no store, or one whose positions of the log are used up.
+/// The device is handed back where it holds no store, or one whose positions of the log are used up:
+/// that is answered as want of memory.
 /// Which fault comes where is said at `rss_store::open`.
 pub fn open<D: Device>(alloc: Global, device: D, frames: u32) -> Result<Rss<Buffer<D>>, Unopened<D>>
     requires least { LEAST_FRAMES ≤ frames }

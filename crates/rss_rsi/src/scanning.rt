@@ -17,11 +17,8 @@ ghost use Rattle.rss_session.specs.Looks.{CostsNothing};
 
 use crate::Rss;
 use crate::linked::not_connected;
-use crate::looking::test_read;
-use rss_access::tuple_of;
 use rss_base::{
-    Body, CallError, Key, Kind, LimitKind, Mode, Name, Place, Refusal, Reply, Tid, Tuple,
-    tid_is_spelled,
+    CallError, Key, Kind, LimitKind, Mode, Name, Refusal, Reply, Tid, Tuple, tid_is_spelled,
 };
 use rss_buffer::Saving;
 use rss_scan::{Cursor, Path};
@@ -212,25 +209,15 @@ impl<S: Saving> Rss<S> {
         };
         self.down = true;
         let found = self.session.next_entry(number, start, &cursor.last)?;
+        self.down = false;
         let Some((key, tid)) = found else {
-            self.down = false;
             return Ok(None);
         };
         tid_is_spelled(Some(tid));
         let relation = self.session.store.catalog.image(number).relation;
         let segment = self.session.store.catalog.relation(relation).segment;
-        let mut body = Body::new();
-        if !self.session.look(segment, relation, tid, &mut body)? {
-            return Err(CallError::Damaged(Place::Tuple(segment, tid)));
-        }
-        self.down = false;
-        let catalog = &self.session.store.catalog;
-        let Ok(read) = tuple_of(self.alloc, catalog, relation, body.as_slice()) else {
-            return Err(CallError::NoMemory);
-        };
-        self.down = true;
-        let tuple = test_read(read, segment, tid)?;
-        self.down = false;
+        let at = self.there(relation, segment, tid)?;
+        let tuple = self.tuple_at(relation, segment, tid, at)?;
         Ok(Some((key, tid, tuple)))
     }
 
@@ -282,20 +269,8 @@ impl<S: Saving> Rss<S> {
         ensures idle { CostsNothing (session_of self.old) (session_of self.new) }
     {
         let segment = self.session.store.catalog.relation(number).segment;
-        let mut body = Body::new();
-        self.down = true;
-        if !self.session.look(segment, number, tid, &mut body)? {
-            return Err(CallError::Damaged(Place::Tuple(segment, tid)));
-        }
-        self.down = false;
-        let catalog = &self.session.store.catalog;
-        let Ok(read) = tuple_of(self.alloc, catalog, number, body.as_slice()) else {
-            return Err(CallError::NoMemory);
-        };
-        self.down = true;
-        let tuple = test_read(read, segment, tid)?;
-        self.down = false;
-        Ok(tuple)
+        let at = self.there(number, segment, tid)?;
+        self.tuple_at(number, segment, tid, at)
     }
 
     /// The tuple of the relation of this number with the least identifier behind this one, or the least
@@ -319,20 +294,14 @@ impl<S: Saving> Rss<S> {
         ensures idle { CostsNothing (session_of self.old) (session_of self.new) }
     {
         let segment = self.session.store.catalog.relation(number).segment;
-        let mut body = Body::new();
         self.down = true;
-        let found = self.session.next_tuple(segment, number, after, &mut body)?;
+        let found = self.session.next_tuple(segment, number, after)?;
         self.down = false;
-        let Some(tid) = found else {
+        let Some((tid, at)) = found else {
             return Ok(None);
         };
-        let catalog = &self.session.store.catalog;
-        let Ok(read) = tuple_of(self.alloc, catalog, number, body.as_slice()) else {
-            return Err(CallError::NoMemory);
-        };
-        self.down = true;
-        let tuple = test_read(read, segment, tid)?;
-        self.down = false;
+        tid_is_spelled(Some(tid));
+        let tuple = self.tuple_at(number, segment, tid, at)?;
         Ok(Some((tid, tuple)))
     }
 }

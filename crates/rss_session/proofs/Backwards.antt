@@ -3,13 +3,15 @@ use Rattle.std.proofs.Common.{◌≡◌, ℕ, suc, ◌+◌, ◌-◌, ◌<◌, �
 use Rattle.std.specs.Prelude.{Option, Some, None, IfSome, IfNone, min, option_map, slice_get, Result, Ok, IsErrOf}
 use Rattle.std.proofs.lemmas.Option.{slice_get-map, slice_get_past}
 use Rattle.rss_base.specs.DiskRule.{IsTold}
+use Rattle.rss_base.specs.Devices.{DrivesOut}
 use Rattle.rss_base.specs.Faults.{Rises}
 use Rattle.rss_base.specs.Paged.{Backing, LeavesFixed}
+use Rattle.rss_base.specs.Steps.{driven}
 use Rattle.rss_base.specs.declared.fault.PageFault.{PageFault}
 use Rattle.rss_base.specs.declared.fault.PageFault.TheVariants.{Device as DeviceFailed, NoMemory}
 use Rattle.rss_base.specs.declared.root.Root.{Root}
 use Rattle.rss_base.proofs.Calls.{leaves_then, leaves_rests}
-use Rattle.rss_base.proofs.Moments.{widened, continues}
+use Rattle.rss_base.proofs.Moments.{widened, continues, drives_nothing, drives_then}
 use Rattle.rss_model.specs.Changes.{Change, maker, own, kept_to, cut_off}
 use Rattle.rss_model.specs.Machine.{State, now}
 use Rattle.rss_model.specs.Meter.{Stamp}
@@ -40,7 +42,7 @@ position_of note = note.position
 abbrev pub changes_in_all : SessionView → ℕ → List Noted
 changes_in_all view t = (transaction_in view.opened t).changes
 
--- So many of its changes are left, and at least as many as at the save point. What is fixed of the device's pages stays.
+-- So many of its changes are left, and at least as many as at the save point. What is fixed of the device's pages stays, and others are written only as pages are driven out.
 pub record WayBack (t save : ℕ) (old new : SessionView) (first : Option ℕ) : Type 0 where
   pub left : ℕ
   pub low : count_at (transaction_in old.opened t) save ≤ left
@@ -54,6 +56,7 @@ pub record WayBack (t save : ℕ) (old new : SessionView) (first : Option ℕ) :
   pub number : new.store.number ≡ old.store.number
   pub backing : new.store.pages.backing ≡ old.store.pages.backing
   pub leaves : LeavesFixed (old.store.pages.settled ≡ true) (new.store.pages.settled ≡ true) old.store.pages.disk new.store.pages.disk old.store.pages.fixed new.store.pages.fixed
+  pub drives : DrivesOut (driven old.store.pages) (driven new.store.pages)
   pub later : old.store.pages.faults ≤ new.store.pages.faults
   pub listed : StaysListed old new
   pub shows : IsTold old.store.pages.disk → (state : State) → Shows old state → ShowsBack new state t left
@@ -109,6 +112,7 @@ begins_back view t save ready opened =
       number = refl;
       backing = refl;
       leaves = leaves_rests _ view.store.pages.disk view.store.pages.fixed;
+      drives = drives_nothing (driven view.store.pages);
       later = omega arith;
       listed = same_again view.store.catalog.listing;
       shows = λ told state shows. all_shown view state t whole (omega arith) shows;
@@ -164,6 +168,7 @@ module _ (old mid : SessionView) (t save : ℕ) (first : Option ℕ) (opened : i
       number = did.number ∙ way.number;
       backing = did.step.passes.backing ∙ way.backing;
       leaves = leaves_then way.leaves did.step.passes.leaves;
+      drives = drives_then way.drives did.step.passes.drives;
       later = omega (arith, way.later, did.step.passes.later);
       listed = same_then way.listed did.definitions;
       shows = λ told state shows. back (way.leaves.told.0 told) state last.older mid_count (own_at old state t last.older position shows place_is) (shown_mid told state shows);
@@ -236,9 +241,9 @@ keeps_left old new ready leaves = λ told state kept shows.
     })
 
 pub goes_left : {T : Type 0} (old new : SessionView) (result : Result T PageFault) → IsReady old → LeavesFixed (old.store.pages.settled ≡ true) (new.store.pages.settled ≡ true) old.store.pages.disk new.store.pages.disk old.store.pages.fixed new.store.pages.fixed
-    → old.store.pages.faults ≤ new.store.pages.faults → new.store.root ≡ old.store.root → new.store.pages.backing ≡ old.store.pages.backing
+    → DrivesOut (driven old.store.pages) (driven new.store.pages) → old.store.pages.faults ≤ new.store.pages.faults → new.store.root ≡ old.store.root → new.store.pages.backing ≡ old.store.pages.backing
     → (IsErrOf result DeviceFailed → Rises old.store.pages.faults new.store.pages.faults) → (IsErrOf result NoMemory → ⊥) → NoMoreSaves old new → GoesOn old new result
-goes_left old new result ready leaves later root backing failed memory saves = record {
+goes_left old new result ready leaves drives later root backing failed memory saves = record {
   told = leaves.told;
   history = λ told. continues (leaves.moments ready.store.settled_now told);
   later = later;
@@ -248,4 +253,5 @@ goes_left old new result ready leaves later root backing failed memory saves = r
   log_pages = ap (λ (r : Root). r.log_pages) root;
   frames = ap (λ (b : Backing). b.frames) backing;
   saves = saves;
+  unsaved = λ still. record { root = root; drives = drives };
 }

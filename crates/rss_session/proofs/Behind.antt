@@ -30,6 +30,7 @@ looks_as given looks = record {
     log_pages = looks.goes.log_pages;
     frames = looks.goes.frames;
     saves = looks.goes.saves;
+    unsaved = looks.goes.unsaved;
   };
 }
 
@@ -98,6 +99,7 @@ fails_as {T = T} {U = U} {fault = fault} looks = record {
     log_pages = looks.goes.log_pages;
     frames = looks.goes.frames;
     saves = looks.goes.saves;
+    unsaved = looks.goes.unsaved;
   };
 }
   where

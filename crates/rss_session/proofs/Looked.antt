@@ -29,7 +29,9 @@ use Rattle.rss_stored.specs.Store.{IsListed, SpellsTables}
 use Rattle.rss_model.specs.Tables.{segment_of}
 use Rattle.rss_stored.proofs.Listed.{listed, stands_within}
 use Rattle.rss_model.proofs.StepKeeping.{kept_fit}
-use Rattle.rss_access.specs.Tuples.{body_at, FindsBody}
+use Rattle.rss_tuple.specs.declared.body_at.BodyAt.{BodyAt}
+use Rattle.rss_tuple.proofs.Located.{stands_so}
+use Rattle.rss_access.specs.Tuples.{body_at, FindsBody, FindsBodyAt}
 use Rattle.rss_tuple.specs.Placing.{IsNameable, IsChosen, IsFree}
 use Rattle.rss_tuple.specs.TupleSteps.{NoneIs, tuples_in}
 use Rattle.rss_access.specs.Written.{AreWritten}
@@ -39,7 +41,7 @@ use Rattle.rss_session.specs.Sessions.{SessionView, IsReady, sums_in}
 use Rattle.rss_session.specs.Sessions as sessions
 use Rattle.rss_session.specs.Shown.{Shows}
 use Rattle.rss_session.specs.Calls.{KeepsTables}
-use Rattle.rss_session.specs.Looks.{IsRelationIn, FindsTuple, IsPlace, FindsPlace, HasNoPlace}
+use Rattle.rss_session.specs.Looks.{IsRelationIn, FindsTuple, FindsTupleAt, IsPlace, FindsPlace, HasNoPlace}
 
 -- the session with other pages
 abbrev pub with_pages : PagesView → SessionView → SessionView
@@ -133,6 +135,10 @@ finds_tuple {view = view} {segment = segment} {number = number} {tid = tid} {the
   none = λ is state relation kept shows in_it.
       found_none shows.store.spells (kept_fit state kept).1 number relation in_it.at tid body (subst (λ (b : Bool). FindsBody relation.segment number tid view.store.pages b body) is (subst (λ (s : ℕ). FindsBody s number tid view.store.pages there body) (sym in_it.within) finds));
 }
+
+pub finds_at : (view : SessionView) (segment number : ℕ) (tid : Tid) (pages : Held) (found : Option BodyAt) → FindsBodyAt segment number tid view.store.pages pages found → FindsTupleAt view segment number tid pages found
+finds_at view segment number tid pages None finds = finds_tuple finds
+finds_at view segment number tid pages (Some at) finds = stands_so (λ bytes its. finds_tuple its) finds
 
 -- ---- identifiers for new tuples
 

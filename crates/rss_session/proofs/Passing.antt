@@ -1,16 +1,18 @@
 -- What a call of the store passes on to the session.
 use Rattle.std.proofs.Common.{◌≡◌, ℕ, ◌≤◌, true, refl, sym, ◌∙◌, ap, subst, arith}
 use Rattle.std.specs.Prelude.{◌↔◌, Result, Ok, Err, IsErrOf, IsErrAnd, OnOk}
+use Rattle.std.proofs.lemmas.Bool.{true≢false}
 use Rattle.std.proofs.lemmas.Result.{err_from_is_err_and, on_ok_weaker}
 use Rattle.rss_base.specs.DiskRule.{IsTold, Passes, Continues}
 use Rattle.rss_base.specs.Faults.{Rises}
 use Rattle.rss_base.specs.Paged.{Backing}
-use Rattle.rss_base.specs.Steps.{PagesView, Keys, PassesOn, PagesCall, AreCounted}
+use Rattle.rss_base.specs.Devices.{DrivesOut}
+use Rattle.rss_base.specs.Steps.{PagesView, Keys, PassesOn, PagesCall, AreCounted, driven}
 use Rattle.rss_base.specs.declared.fault.PageFault.{PageFault}
 use Rattle.rss_base.specs.declared.fault.PageFault.TheVariants.{Device as DeviceFailed, Damaged, NoMemory}
 use Rattle.rss_base.specs.declared.place.Place.{Place}
 use Rattle.rss_base.specs.declared.root.Root.{Root}
-use Rattle.rss_base.proofs.Moments.{started, widened, continues, continues_then, rises_since}
+use Rattle.rss_base.proofs.Moments.{started, widened, continues, continues_then, rises_since, drives_nothing, drives_then}
 use Rattle.rss_tuple.specs.Heaps.{AreHeaps}
 use Rattle.rss_model.specs.Machine.{State, StoreSize}
 use Rattle.rss_stored.specs.Store.{size_of}
@@ -22,7 +24,7 @@ use Rattle.rss_store.specs.Stores.{IsSaved}
 use Rattle.rss_store.specs.Commits.{CommitsPages}
 use Rattle.rss_trans.specs.Transactions.{OpenView, Checkpoints}
 use Rattle.rss_session.specs.Sessions.{SessionView, IsReady}
-use Rattle.rss_session.specs.Calls.{NoMoreSaves, GoesOn, CountsAnew}
+use Rattle.rss_session.specs.Calls.{NoMoreSaves, SavesNothing, GoesOn, GoesOnIf, ChecksOn, CountsAnew}
 use Rattle.rss_session.specs.Looks.{LooksOn}
 use Rattle.rss_session.proofs.Looked.{with_pages, ready_looked, shows_looked, keeps_looked}
 use Rattle.rss_session.proofs.Shown.{with_opened}
@@ -37,6 +39,28 @@ keeps_altered ready alters told state shows =
       holds = sym shows.tied.tables;
     })
 
+-- nothing is saved by one call, nor by another
+pub saves_nothing : (view : SessionView) → SavesNothing view view
+saves_nothing view = record { root = refl; drives = drives_nothing (driven view.store.pages) }
+
+pub saves_nothing_then : {old mid new : SessionView} → SavesNothing old mid → SavesNothing mid new → SavesNothing old new
+saves_nothing_then one two = record { root = two.root ∙ one.root; drives = drives_then one.drives two.drives }
+
+-- where another fact holds
+pub goes_if : {T : Type 0} {result : Result T PageFault} {still other : Type 0} {old new : SessionView} → (other → still) → GoesOnIf still old new result → GoesOnIf other old new result
+goes_if is on = record {
+  told = on.told;
+  history = on.history;
+  later = on.later;
+  failed = on.failed;
+  memory = on.memory;
+  slots = on.slots;
+  log_pages = on.log_pages;
+  frames = on.frames;
+  saves = on.saves;
+  unsaved = λ other. on.unsaved (is other);
+}
+
 -- by another result, which fails only where the first did
 pub goes_altered : {T U : Type 0} {result : Result T PageFault} {old new : SessionView} (other : Result U PageFault) → IsStoreReady old.store → (IsErrOf other DeviceFailed → IsErrOf result DeviceFailed) → (IsErrOf other NoMemory → IsErrOf result NoMemory) → AltersPages old.store new.store result → NoMoreSaves old new → GoesOn old new other
 goes_altered other ready device memory alters saves = record {
@@ -49,6 +73,7 @@ goes_altered other ready device memory alters saves = record {
   log_pages = ap (λ (r : Root). r.log_pages) alters.root;
   frames = ap (λ (b : Backing). b.frames) alters.step.passes.backing;
   saves = saves;
+  unsaved = λ still. record { root = alters.root; drives = alters.step.passes.drives };
 }
 
 -- a fault that is passed on is the one that came
@@ -60,7 +85,7 @@ fault_same {U = U} {result = result} {fault = fault} {other = other} was is of =
     was ∙ ap Err one
 
 -- one call behind another
-pub goes_then : {T U : Type 0} {first : Result T PageFault} {second : Result U PageFault} {old mid new : SessionView} → GoesOn old mid first → GoesOn mid new second → GoesOn old new second
+pub goes_then : {T U : Type 0} {first : Result T PageFault} {second : Result U PageFault} {still : Type 0} {old mid new : SessionView} → GoesOnIf still old mid first → GoesOnIf still mid new second → GoesOnIf still old new second
 goes_then one two = record {
   told = (λ told. two.told.0 (one.told.0 told), λ told. one.told.1 (two.told.1 told));
   history = λ told. continues_then (one.history told) (two.history (one.told.0 told));
@@ -71,10 +96,11 @@ goes_then one two = record {
   log_pages = two.log_pages ∙ one.log_pages;
   frames = two.frames ∙ one.frames;
   saves = λ t. omega (arith, one.saves t, two.saves t);
+  unsaved = λ still. saves_nothing_then (one.unsaved still) (two.unsaved still);
 }
 
 -- and then the pages stay
-pub goes_still : {T U : Type 0} {first : Result T PageFault} {old mid new : SessionView} (value : U) → GoesOn old mid first → new.store.pages ≡ mid.store.pages → new.store.root ≡ mid.store.root → NoMoreSaves mid new → GoesOn old new (Ok value)
+pub goes_still : {T U : Type 0} {first : Result T PageFault} {still : Type 0} {old mid new : SessionView} (value : U) → GoesOnIf still old mid first → new.store.pages ≡ mid.store.pages → new.store.root ≡ mid.store.root → NoMoreSaves mid new → GoesOnIf still old new (Ok value)
 goes_still {old = old} value one pages root saves = record {
   told = subst (λ (p : PagesView). IsTold old.store.pages.disk ↔ IsTold p.disk) (sym pages) one.told;
   history = λ told. subst (λ (p : PagesView). Continues old.store.pages.disk p.disk) (sym pages) (one.history told);
@@ -85,11 +111,14 @@ goes_still {old = old} value one pages root saves = record {
   log_pages = ap (λ (r : Root). r.log_pages) root ∙ one.log_pages;
   frames = ap (λ (p : PagesView). p.backing.frames) pages ∙ one.frames;
   saves = λ t. omega (arith, one.saves t, saves t);
+  unsaved = λ still.
+      let was = one.unsaved still in
+      record { root = root ∙ was.root; drives = subst (λ (p : PagesView). DrivesOut (driven old.store.pages) (driven p)) (sym pages) was.drives };
 }
 
--- where a root was selected
-pub goes_committed : {T : Type 0} {result : Result T PageFault} {old new : SessionView} → CommitsPages old.store.pages new.store.pages result → size_of new.store.root ≡ size_of old.store.root → NoMoreSaves old new → GoesOn old new result
-goes_committed did size saves = record {
+-- a root was selected, or was to be
+pub goes_committed : {T : Type 0} {result : Result T PageFault} {still : Type 0} {old new : SessionView} → CommitsPages old.store.pages new.store.pages result → size_of new.store.root ≡ size_of old.store.root → NoMoreSaves old new → (still → ⊥) → GoesOnIf still old new result
+goes_committed did size saves not = record {
   told = did.told;
   history = did.history;
   later = did.later;
@@ -99,10 +128,32 @@ goes_committed did size saves = record {
   log_pages = ap (λ (s : StoreSize). s.log_pages) size;
   frames = did.frames;
   saves = saves;
+  unsaved = λ still. absurd (not still);
 }
 
+-- a fault ends a call that may take a checkpoint
+pub checks_failed : {T U : Type 0} {fault : PageFault} {old new : SessionView} (result : Result U PageFault) → IsErrAnd result (λ why. why ≡ fault) → ChecksOn {T = T} old new (Err fault) → ChecksOn old new result
+checks_failed {T = T} {U = U} {fault = fault} {old = old} {new = new} result is on =
+    let why = err_from_is_err_and result is in
+    subst (ChecksOn old new) (sym (why.1 ∙ ap Err why.2)) (record {
+      told = on.told;
+      history = on.history;
+      later = on.later;
+      failed = λ of. on.failed (fault_same {T = T} {result = Err fault} refl refl of);
+      memory = λ of. on.memory (fault_same {T = T} {result = Err fault} refl refl of);
+      slots = on.slots;
+      log_pages = on.log_pages;
+      frames = on.frames;
+      saves = on.saves;
+      unsaved = λ still. absurd (true≢false (sym still.0));
+    })
+
+-- the record of a checkpoint stands at the end of the log before it
+pub checkpoint_later : {view : StoreView} → IsStoreReady view → (checkpoint : ℕ) → checkpoint ≡ view.log.end → checkpoint ≡ view.root.checkpoint → ⊥
+checkpoint_later ready checkpoint at same = omega (arith, at, same, ready.formed.before_end, ready.log.later)
+
 -- nothing was done to the store
-pub goes_opened : {U : Type 0} {old : SessionView} {opened : OpenView} (value : U) → NoMoreSaves old (with_opened old opened) → GoesOn old (with_opened old opened) (Ok value)
+pub goes_opened : {U : Type 0} {still : Type 0} {old : SessionView} {opened : OpenView} (value : U) → NoMoreSaves old (with_opened old opened) → GoesOnIf still old (with_opened old opened) (Ok value)
 goes_opened {old = old} value saves = record {
   told = (λ told. told, λ told. told);
   history = λ told. started old.store.pages.disk _;
@@ -113,10 +164,11 @@ goes_opened {old = old} value saves = record {
   log_pages = refl;
   frames = refl;
   saves = saves;
+  unsaved = λ still. record { root = refl; drives = drives_nothing (driven old.store.pages) };
 }
 
 -- nothing was done, and a fault is answered that is none of the device
-pub goes_damaged : {T : Type 0} (view : SessionView) (place : Place) → GoesOn {T = T} view view (Err (Damaged place))
+pub goes_damaged : {T : Type 0} {still : Type 0} (view : SessionView) (place : Place) → GoesOnIf {T = T} still view view (Err (Damaged place))
 goes_damaged view place = record {
   told = (λ told. told, λ told. told);
   history = λ told. started view.store.pages.disk _;
@@ -127,6 +179,7 @@ goes_damaged view place = record {
   log_pages = refl;
   frames = refl;
   saves = λ t. omega arith;
+  unsaved = λ still. saves_nothing view;
 }
 
 -- ---- behind a checkpoint
@@ -154,6 +207,7 @@ goes_called passes settled failed memory = record {
   log_pages = refl;
   frames = ap (λ (b : Backing). b.frames) passes.backing;
   saves = λ t. omega arith;
+  unsaved = λ still. record { root = refl; drives = passes.drives };
 }
 
 -- a look by which no page was mapped, and none holds anything else

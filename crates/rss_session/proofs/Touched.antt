@@ -93,6 +93,7 @@ module _ (old : SessionView) {pages : PagesView} {segment asks outs : ℕ} (step
     log_pages = refl;
     frames = ap (λ (b : Backing). b.frames) step.passes.backing;
     saves = λ t. omega arith;
+    unsaved = λ still. record { root = refl; drives = step.passes.drives };
   }
 
   -- the store may go on, where the pages spell tables

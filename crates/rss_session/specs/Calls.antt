@@ -1,10 +1,11 @@
 -- What the calls of a session leave.
-use Rattle.std.specs.Prelude.{◌≡◌, ◌↔◌, ◌⊎◌, ℕ, ◌+◌, ◌≤◌, true, List, [], length, take, slice_get, Option, Some, option_map, IfSome, IfNone, Result, IsErrOf}
+use Rattle.std.specs.Prelude.{◌≡◌, ◌↔◌, ◌⊎◌, ℕ, ◌+◌, ◌≤◌, true, List, [], length, take, slice_get, Option, Some, option_map, IfSome, IfNone, Result, IsOk, IsErrOf, ⊤}
 use Rattle.std.specs.FinMap as map
 use Rattle.rss_base.specs.DiskRule.{IsTold, Passes, Continues}
 use Rattle.rss_base.specs.Faults.{Rises}
 use Rattle.rss_base.specs.Paged.{mapped_of}
-use Rattle.rss_base.specs.Steps.{NoneChanged}
+use Rattle.rss_base.specs.Devices.{DrivesOut}
+use Rattle.rss_base.specs.Steps.{NoneChanged, driven}
 use Rattle.rss_base.specs.Listings.{relation_at}
 use Rattle.rss_base.specs.declared.change.Change as told
 use Rattle.rss_base.specs.declared.relation.RelationEntry.{RelationEntry}
@@ -57,8 +58,13 @@ OthersStayOpen t old new =
 abbrev pub StaysListed : SessionView → SessionView → Type 0
 StaysListed old new = SameDefinitions old.store.catalog.listing new.store.catalog.listing
 
--- By the result: the device tells its contents and its history as before, each failure of it has its cause, and memory never runs out. The store has its size, and no transaction more save points.
-pub record GoesOn {T : Type 0} (old new : SessionView) (result : Result T PageFault) : Type 0 where
+-- No root is selected, and pages are written as others drive them out of memory alone.
+pub record SavesNothing (old new : SessionView) : Type 0 where
+  pub root : new.store.root ≡ old.store.root
+  pub drives : DrivesOut (driven old.store.pages) (driven new.store.pages)
+
+-- By the result: the device tells its contents and its history as before, each failure of it has its cause, and memory never runs out. The store has its size, and no transaction more save points. Where `still` holds nothing is saved.
+pub record GoesOnIf {T : Type 0} (still : Type 0) (old new : SessionView) (result : Result T PageFault) : Type 0 where
   pub told : IsTold old.store.pages.disk ↔ IsTold new.store.pages.disk
   pub history : IsTold old.store.pages.disk → Continues old.store.pages.disk new.store.pages.disk
   pub later : old.store.pages.faults ≤ new.store.pages.faults
@@ -68,6 +74,19 @@ pub record GoesOn {T : Type 0} (old new : SessionView) (result : Result T PageFa
   pub log_pages : new.store.root.log_pages ≡ old.store.root.log_pages
   pub frames : new.store.pages.backing.frames ≡ old.store.pages.backing.frames
   pub saves : NoMoreSaves old new
+  pub unsaved : still → SavesNothing old new
+
+-- The same of a call that saves nothing.
+abbrev pub GoesOn : {T : Type 0} → SessionView → SessionView → Result T PageFault → Type 0
+GoesOn old new result = GoesOnIf ⊤ old new result
+
+-- the call came to its end, and the last checkpoint is the one before it
+abbrev pub TakesNoCheckpoint : {T : Type 0} → SessionView → SessionView → Result T PageFault → Type 0
+TakesNoCheckpoint old new result = IsOk result × (new.store.root.checkpoint ≡ old.store.root.checkpoint)
+
+-- The same of a call that may take a checkpoint: it saves nothing else.
+abbrev pub ChecksOn : {T : Type 0} → SessionView → SessionView → Result T PageFault → Type 0
+ChecksOn old new result = GoesOnIf (TakesNoCheckpoint old new result) old new result
 
 -- the log has so many bytes more at most
 abbrev pub Appends : ℕ → SessionView → SessionView → Type 0

@@ -1,7 +1,8 @@
 -- What a look at tuples finds, and what it passes on.
-use Rattle.std.specs.Prelude.{◌≡◌, ℕ, Bool, true, false, List, [], Option, Some, None, option_map, IfSome, Result, Ok, Err, OnOk, Contains}
+use Rattle.std.specs.Prelude.{◌≡◌, ℕ, Bool, true, false, List, [], Option, Some, None, option_map, IfSome, MatchOption, Result, Ok, Err, OnOk, Contains}
 use Rattle.rss_base.specs.DiskRule.{IsTold}
 use Rattle.rss_base.specs.Listings.{Listing, relation_at}
+use Rattle.rss_base.specs.Paged.{Held}
 use Rattle.rss_base.specs.Steps.{AreInMemory, StaysIdle}
 use Rattle.rss_base.specs.TupleTypes.{kinds}
 use Rattle.rss_base.specs.declared.fault.PageFault.{PageFault}
@@ -12,7 +13,9 @@ use Rattle.rss_base.specs.declared.place.Place.{Place}
 use Rattle.rss_base.specs.declared.relation.RelationEntry.{RelationEntry}
 use Rattle.rss_base.specs.declared.tid.Tid.{Tid}
 use Rattle.rss_base.specs.declared.value.Value.{Value}
+use Rattle.rss_tuple.specs.Located.{StandsAt}
 use Rattle.rss_tuple.specs.Placing.{IsNameable, IsChosen}
+use Rattle.rss_tuple.specs.declared.body_at.BodyAt.{BodyAt}
 use Rattle.rss_model.specs.Images.{entry}
 use Rattle.rss_model.specs.Items.{Values}
 use Rattle.rss_model.specs.Kept.{Kept}
@@ -84,6 +87,22 @@ FindsNextTuple view segment number after found body =
     → IsRelationIn view segment number relation
     → (next_along (now state) (RelationPath relation.name) (option_map (entry []) after) ≡ option_map (entry []) found)
     × IfSome found (λ tid. HasTuple view.store.catalog.listing state number relation tid body)
+
+-- ---- where bodies stand
+
+-- Where the body stands of the tuple with an identifier, where the relation of this number has it. `pages` is what pages hold afterwards.
+abbrev pub FindsTupleAt : SessionView → ℕ → ℕ → Tid → Held → Option BodyAt → Type 0
+FindsTupleAt view segment number tid pages found =
+    MatchOption found (FindsTuple view segment number tid false [])
+    (StandsAt pages (FindsTuple view segment number tid true))
+
+-- what a relation's list has next, and where its body stands
+abbrev pub FindsNextTupleAt : SessionView → ℕ → ℕ → Option Tid → Held → Option (Tid × BodyAt) → Type 0
+FindsNextTupleAt view segment number after pages found =
+    MatchOption found (FindsNextTuple view segment number after None [])
+    (λ next. StandsAt pages (FindsNextTuple view segment number after (Some next.0)) next.1)
+
+-- ---- identifiers for new tuples
 
 -- no other transaction holds a tuple of the relation's segment with this identifier
 abbrev pub IsAloneAt : State → ℕ → Name → Tid → Type 0

@@ -10,7 +10,7 @@ ghost use Rattle.rss_trans.specs.Transactions.{is_open};
 ghost use Rattle.rss_session.specs.Changes.{is_delete_told, relation_told};
 ghost use Rattle.rss_session.specs.Sessions.{IsReady, IsEarly};
 ghost use Rattle.rss_session.specs.Weighing.{weighed, RulesSo};
-ghost use Rattle.rss_session.specs.Calls.{GoesOn, NoMoreSaves, StayOpen, StaysListed, Appends, KeepsTables, Makes, MayNotMake};
+ghost use Rattle.rss_session.specs.Calls.{ChecksOn, GoesOn, NoMoreSaves, StayOpen, StaysListed, Appends, KeepsTables, Makes, MayNotMake};
 ghost use Rattle.rss_session.specs.Shown.{Shows};
 ghost use Rattle.rss_model.specs.Machine.{State};
 ghost use Rattle.rss_model.specs.ReplyText.{IsShort};
@@ -92,7 +92,7 @@ impl<S: Saving> Session<S> {
         ensures listed { OnOk result (StaysListed (view S.view self.old) (view S.view self.new)) }
         ensures appends { Appends (longest_record + largest_checkpoint)
             (view S.view self.old) (view S.view self.new) }
-        ensures goes { GoesOn (view S.view self.old) (view S.view self.new) result }
+        ensures goes { ChecksOn (view S.view self.old) (view S.view self.new) result }
     {
         if !saves_first {
             return self.change(transaction, change);

@@ -12,7 +12,7 @@ ghost use Rattle.rss_trans.specs.Transactions.{is_open, transaction_in};
 ghost use Rattle.rss_store.specs.Commits.{IsEndPlace, new_pieces};
 ghost use Rattle.rss_session.specs.Sessions.{IsReady, IsEarly};
 ghost use Rattle.rss_session.specs.Shown.{Shows};
-ghost use Rattle.rss_session.specs.Calls.{GoesOn, NoMoreSaves, OneSaveMore, StayOpen, OthersStayOpen, Appends, CommitsTables};
+ghost use Rattle.rss_session.specs.Calls.{GoesOnIf, NoMoreSaves, OneSaveMore, StayOpen, OthersStayOpen, Appends, CommitsTables};
 ghost use Rattle.rss_session.specs.Calls.{HasMarks};
 
 use crate::Session;
@@ -91,7 +91,9 @@ impl<S: Saving> Session<S> {
         ensures catalog { (view S.view self.new).store.catalog
             ≡ (view S.view self.old).store.catalog }
         ensures appends { Appends end_size (view S.view self.old) (view S.view self.new) }
-        ensures goes { GoesOn (view S.view self.old) (view S.view self.new) result }
+        ensures checkpoint { (view S.view self.new).store.root.checkpoint
+            ≡ (view S.view self.old).store.root.checkpoint }
+        ensures goes { GoesOnIf ⊥ (view S.view self.old) (view S.view self.new) result }
     {
         let changed = self.open.newest(transaction, 0).is_some();
         self.open.gone(transaction);

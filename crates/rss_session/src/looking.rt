@@ -1,32 +1,27 @@
 // Looks at tuples.
-ghost use Rattle.std.specs.Prelude.{◌≡◌, ◌+◌, ◌*◌, ◌≤◌, true, is_some, None, IfOk};
+ghost use Rattle.std.specs.Prelude.{◌≡◌, ◌+◌, ◌*◌, ◌≤◌, true, is_some, None, Some, IfOk, IfSome};
 ghost use Rattle.rss_base.specs.DiskRule.{IsTold};
 ghost use Rattle.rss_base.specs.Listings.{relation_at};
 ghost use Rattle.rss_base.specs.Runs.{run_pages};
 ghost use Rattle.rss_base.specs.declared.relation.RelationEntry.{RelationEntry as AnyEntry};
 ghost use Rattle.rss_session.specs.Sessions.{IsReady};
-ghost use Rattle.rss_session.specs.Looks.{LooksOn, CostsNothing, KeepsPages, FindsTuple, FindsNextTuple, FindsPlace, HasNoPlace};
+ghost use Rattle.rss_session.specs.Looks.{LooksOn, CostsNothing, KeepsPages, FindsTupleAt, FindsNextTupleAt, FindsPlace, HasNoPlace};
+ghost use Rattle.rss_tuple.specs.Located.{body_there, IsInMemory};
 ghost use Rattle.rss_tuple.specs.Calls.{IsSegment, MayPut};
 
 use crate::Session;
 use rss_access::{find, find_next};
-use rss_base::{Body, PageFault, Tid};
+use rss_base::{PageFault, Tid};
 use rss_buffer::Saving;
-use rss_tuple::Tuples;
+use rss_tuple::{BodyAt, Tuples};
 
 impl<S: Saving> Session<S> {
     ghost use Rattle.rss_session.specs.Parts.{view};
 
-    /// Whether the tuple with this identifier is one of the relation of this number, which stands in
-    /// this segment. If so, its body is put into `into`. It asks for two pages at most, which may drive
-    /// out as many, each with a run of pages.
-    pub fn look(
-        &mut self,
-        segment: u8,
-        number: u8,
-        tid: Tid,
-        into: &mut Body,
-    ) -> Result<bool, PageFault>
+    /// Where the body of the tuple with this identifier stands, where that is one of the relation of
+    /// this number, which stands in this segment. It asks for two pages at most, which may drive out as
+    /// many, each with a run of pages.
+    pub fn look(&mut self, segment: u8, number: u8, tid: Tid) -> Result<Option<BodyAt>, PageFault>
         requires { IsReady (view S.view self.old) }
         ensures looks { LooksOn (view S.view self.old) (view S.view self.new) result }
         ensures idle { CostsNothing (view S.view self.old) (view S.view self.new) }
@@ -34,29 +29,43 @@ impl<S: Saving> Session<S> {
             ≤ (view S.view self.old).store.pages.asks + 2)
             × ((view S.view self.new).store.pages.writes
             ≤ (view S.view self.old).store.pages.writes + run_pages * 2) }
-        ensures finds { IfOk result (λ there. IsTold (view S.view self.old).store.pages.disk
-            → FindsTuple (view S.view self.old) segment number tid there into.new) }
+        ensures finds { IfOk result (λ found. IsTold (view S.view self.old).store.pages.disk
+            → FindsTupleAt (view S.view self.old) segment number tid
+            (view S.view self.new).store.pages.held found) }
+        ensures there { IfOk result (λ found.
+            IfSome found (IsInMemory (view S.view self.new).store.pages)) }
     {
-        find(&mut self.store.tuples, segment, number, tid, into)
+        find(&mut self.store.tuples, segment, number, tid)
     }
 
     /// The least identifier behind this one, or the least of all, that a tuple of the relation of this
-    /// number has, which stands in this segment. The tuple's body is put into `into`.
+    /// number has, which stands in this segment; and where the tuple's body stands.
     pub fn next_tuple(
         &mut self,
         segment: u8,
         number: u8,
         after: Option<Tid>,
-        into: &mut Body,
-    ) -> Result<Option<Tid>, PageFault>
+    ) -> Result<Option<(Tid, BodyAt)>, PageFault>
         requires ready { IsReady (view S.view self.old) }
         requires segment { IsSegment segment }
         ensures looks { LooksOn (view S.view self.old) (view S.view self.new) result }
         ensures idle { CostsNothing (view S.view self.old) (view S.view self.new) }
         ensures finds { IfOk result (λ found. IsTold (view S.view self.old).store.pages.disk
-            → FindsNextTuple (view S.view self.old) segment number after found into.new) }
+            → FindsNextTupleAt (view S.view self.old) segment number after
+            (view S.view self.new).store.pages.held found) }
+        ensures there { IfOk result (λ found.
+            IfSome found (λ next. IsInMemory (view S.view self.new).store.pages next.1)) }
     {
-        find_next(&mut self.store.tuples, segment, number, after, into)
+        find_next(&mut self.store.tuples, segment, number, after)
+    }
+
+    /// Lends the bytes of a body, without a copy of them.
+    pub fn body(&self, at: BodyAt) -> &[u8]
+        requires { IsInMemory (view S.view self.now).store.pages at }
+        ensures { IsTold (view S.view self.now).store.pages.disk
+            → body_there (view S.view self.now).store.pages.held at ≡ Some result.now }
+    {
+        self.store.tuples.body(at)
     }
 
     /// The identifier that a new tuple gets in a segment, with a body of this length: one that no tuple

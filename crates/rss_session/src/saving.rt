@@ -17,7 +17,7 @@ ghost use Rattle.rss_session.specs.Sessions.{IsReady, CanSave, IsEarly};
 ghost use Rattle.rss_session.specs.Shown.{Shows};
 ghost use Rattle.rss_base.specs.LogRecords.{marks_most};
 ghost use Rattle.rss_session.specs.Weighing.{HasSavedRoom, MaySave, named};
-ghost use Rattle.rss_session.specs.Calls.{GoesOn, Appends, KeepsTables, CountsAnew, IsRedefined, RedefinesTables, ShowsNone};
+ghost use Rattle.rss_session.specs.Calls.{ChecksOn, Appends, KeepsTables, CountsAnew, IsRedefined, RedefinesTables, ShowsNone};
 ghost use Rattle.rss_store.specs.Stores.{IsSaved};
 
 use crate::Session;
@@ -53,7 +53,7 @@ impl<S: Saving> Session<S> {
         ensures asks { (view S.view self.new).store.pages.asks
             ≡ (view S.view self.old).store.pages.asks }
         ensures appends { Appends largest_checkpoint (view S.view self.old) (view S.view self.new) }
-        ensures goes { GoesOn (view S.view self.old) (view S.view self.new) result }
+        ensures goes { ChecksOn (view S.view self.old) (view S.view self.new) result }
     {
         self.save_all()
     }
@@ -81,7 +81,7 @@ impl<S: Saving> Session<S> {
         ensures asks { (view S.view self.new).store.pages.asks
             ≡ (view S.view self.old).store.pages.asks }
         ensures appends { Appends largest_checkpoint (view S.view self.old) (view S.view self.new) }
-        ensures goes { GoesOn (view S.view self.old) (view S.view self.new) result }
+        ensures goes { ChecksOn (view S.view self.old) (view S.view self.new) result }
     {
         self.save_all()
     }
@@ -113,7 +113,7 @@ impl<S: Saving> Session<S> {
         ensures asks { (view S.view self.new).store.pages.asks
             ≡ (view S.view self.old).store.pages.asks }
         ensures appends { Appends largest_checkpoint (view S.view self.old) (view S.view self.new) }
-        ensures goes { GoesOn (view S.view self.old) (view S.view self.new) result }
+        ensures goes { ChecksOn (view S.view self.old) (view S.view self.new) result }
     {
         let marks = self.marks();
         if !self.has_saved_room() {

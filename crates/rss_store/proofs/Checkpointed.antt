@@ -31,7 +31,7 @@ use Rattle.rss_access.specs.Changes.{CanAlter}
 use Rattle.rss_access.proofs.Within.{nodes_within}
 use Rattle.rss_access.proofs.Writing.{spells_same, held_off_system, notes_off_system, all_written}
 use Rattle.rss_model.specs.Changes.{Change}
-use Rattle.rss_model.specs.Records.{Checkpoint, Placed, Listed, changes_in, list_after}
+use Rattle.rss_model.specs.Records.{Checkpoint, Placed, Listed, changes_in}
 use Rattle.rss_model.specs.Machine.{State, now as tables_now}
 use Rattle.rss_model.specs.Meanings.{Logged, as_bytes, as_entries, SameDefinitions}
 use Rattle.rss_model.specs.EngineLogs.{EngineLog, all_logged, appended, saved_log, lists_saved, lists_now}

@@ -1,5 +1,6 @@
 -- A root that is selected: what a stop leaves at each moment, and what it leaves then.
 use Rattle.std.proofs.Common.{◌≡◌, ◌⊎◌, inl, inr, ⊎_elim, ℕ, ◌+◌, ◌-◌, ◌/◌, ◌<◌, ◌≤◌, List, ◌++◌, length, drop, refl, sym, ◌∙◌, ap, subst, arith, drop-drop}
+use Rattle.std.specs.Prelude.{Result, Ok, Err, OnOk, OnErr}
 use Rattle.std.proofs.lemmas.List.{length-append, length-drop}
 use Rattle.std.proofs.lemmas.Option.{same_Some}
 use Rattle.std.proofs.Math.Seq.{drop-append_seam}
@@ -24,7 +25,7 @@ use Rattle.rss_stored.specs.Store.{Stored, IsStore}
 use Rattle.rss_stored.proofs.LogPlaced.{bytes_append}
 use Rattle.rss_store.specs.Commits.{IsEndPlace, selector as as_selector, root as as_root, piece as as_piece}
 use Rattle.rss_store.specs.Stores.{StoreView, IsLogBehind, appended_since}
-use Rattle.rss_store.specs.Selecting.{HoldsPiecesWithin, CanSelect, IsNextStore}
+use Rattle.rss_store.specs.Selecting.{HoldsPiecesWithin, CanSelect, IsNextStore, Selects}
 use Rattle.rss_store.proofs.Places.{IsNext, piece_place, saves_logging, store_growing, store_switching, store_switched}
 
 -- ---- the bytes behind the root that was last written
@@ -163,6 +164,11 @@ module _ {view : StoreView} {next : Root} {stored after : Stored} {held : Held} 
 
       pub select_leaves : {new : Disk} → IsSwitched told_mid.pages (3 - view.number) (root_page next) new → (image : Pages) → Leaves new image → IsStore image after
       select_leaves {new = new} switched = store_switched is_next new is.root_is number_next here (named (λ n r. IsSwitched told_mid.pages n (root_page r) new) switched)
+
+-- the last checkpoint stays, if the root names it
+pub checkpoint_stays : {T E : Type 0} (next : Root) (old new : StoreView) (result : Result T E) → OnOk result (Selects next old new) → OnErr result (new.root ≡ old.root) → next.checkpoint ≡ old.root.checkpoint → new.root.checkpoint ≡ old.root.checkpoint
+checkpoint_stays next old new (Ok value) selected unselected same = ap (λ (r : Root). r.checkpoint) selected.root ∙ same
+checkpoint_stays next old new (Err fault) selected unselected same = ap (λ (r : Root). r.checkpoint) unselected
 
 -- ---- what is written
 

@@ -1,5 +1,5 @@
 -- A device that didn't open, by its fault, and what an opening passes on, both seen from an earlier moment.
-use Rattle.std.proofs.Common.{◌≡◌, ◌⊎◌, inl, inr, ⊎_elim, ℕ, ◌*◌, ◌<◌, ◌≤◌, List, Option, refl, sym, ◌∙◌, ap, subst, arith}
+use Rattle.std.proofs.Common.{◌≡◌, inl, inr, ⊎_elim, ℕ, ◌*◌, ◌<◌, ◌≤◌, List, Option, refl, sym, ◌∙◌, ap, subst, arith}
 use Rattle.std.specs.Prelude.{is_some, count_by, Some, Result, Ok, Err}
 use Rattle.rss_base.specs.Answers.{open_error}
 use Rattle.rss_base.specs.declared.fault.OpenFault.{OpenFault}
@@ -36,14 +36,13 @@ refused_broken {pages = pages} place broken = record {
   no_store = λ other is. absurd (cc);
   only_overfull = λ is. absurd (cc);
   overfull = λ over. absurd (overfull_unbroken place over broken);
-  spent = λ stored store past. absurd (sound_unbroken store.root_there store.map place broken);
 }
 
 refused_device : (pages : Pages) → IsRefused pages DeviceFailed
-refused_device pages = record { broken = λ place is. absurd (cc); names = λ place there. inr (inl refl); no_store = λ place is. absurd (cc); only_overfull = λ is. absurd (cc); overfull = λ over. inr (inl refl); spent = λ stored store past. inr (inl refl) }
+refused_device pages = record { broken = λ place is. absurd (cc); names = λ place there. inr (inl refl); no_store = λ place is. absurd (cc); only_overfull = λ is. absurd (cc); overfull = λ over. inr (inl refl) }
 
 pub refused_memory : (pages : Pages) → IsRefused pages LacksMemory
-refused_memory pages = record { broken = λ place is. absurd (cc); names = λ place there. inr (inr refl); no_store = λ place is. absurd (cc); only_overfull = λ is. absurd (cc); overfull = λ over. inr (inr refl); spent = λ stored store past. inr (inr refl) }
+refused_memory pages = record { broken = λ place is. absurd (cc); names = λ place there. inr (inr refl); no_store = λ place is. absurd (cc); only_overfull = λ is. absurd (cc); overfull = λ over. inr (inr refl) }
 
 -- a fault of the layout that names the place
 pub refused_layout : {pages : Pages} (fault : OpenFault) → IsLayoutFault fault → ((place : Place) → fault ≡ NotAStore place → IsBrokenAt place pages) → IsRefused pages fault
@@ -58,10 +57,9 @@ pub refused_room : {pages : Pages} → IsOverfull pages → IsRefused pages (Dam
 refused_room over = record {
   broken = λ place is. absurd (cc);
   names = λ place there. absurd (overfull_unbroken place over there);
-  no_store = λ place is. inl (λ stored store. not_overfull store over);
+  no_store = λ place is stored store. not_overfull store over;
   only_overfull = λ is. over;
   overfull = λ other. inl refl;
-  spent = λ stored store past. absurd (not_overfull store over);
 }
 
 -- a sound layout has room
@@ -78,31 +76,26 @@ layout_unbroken has place broken = sound_unbroken has.root_there has.map place b
 layout_end : {pages : Pages} {root : Root} {number : ℕ} {owners : List (Option PageKey)} → HasLayout pages root number owners → {other : Root} {others : ℕ} → HasRoot pages others other → root.end ≡ other.end
 layout_end has there = ap (λ (r : Root). r.end) (one_root has.root_there there).1
 
-layout_unspent : {pages : Pages} {root : Root} {number : ℕ} {owners : List (Option PageKey)} → HasLayout pages root number owners → root.end < position_most → (place : Place) → IsSpent pages place → ⊥
-layout_unspent has early place spent = omega (arith, early, spent.end, layout_end has spent.root_there)
+layout_unspent : {pages : Pages} {root : Root} {number : ℕ} {owners : List (Option PageKey)} → HasLayout pages root number owners → root.end < position_most → IsSpent pages → ⊥
+layout_unspent has early spent = omega (arith, early, spent.end, layout_end has spent.root_there)
 
 -- with a sound layout, something is damaged
-refused_damaged : {pages : Pages} {root : Root} {number : ℕ} {owners : List (Option PageKey)} (place : Place) → HasLayout pages root number owners → 2 * page_count owners ≤ root.slots → IsNoStore pages ⊎ IsSpent pages place → (place ≡ Room → ⊥) → (position_most ≤ root.end → place ≡ LogPlace root.end) → IsRefused pages (Damaged place)
-refused_damaged {pages = pages} place has half why elsewhere past = record {
+refused_damaged : {pages : Pages} {root : Root} {number : ℕ} {owners : List (Option PageKey)} (place : Place) → HasLayout pages root number owners → 2 * page_count owners ≤ root.slots → IsNoStore pages → (place ≡ Room → ⊥)
+    → IsRefused pages (Damaged place)
+refused_damaged place has half none elsewhere = record {
   broken = λ other is. absurd (cc);
   names = λ other there. absurd (layout_unbroken has other there);
-  no_store = λ other is. let same : place ≡ other = cc in subst (λ (p : Place). IsNoStore pages ⊎ IsSpent pages p) same why;
+  no_store = λ other is. none;
   only_overfull = λ is. let same : place ≡ Room = cc in absurd (elsewhere same);
   overfull = λ over. absurd (layout_room has half over);
-  spent = λ stored store end.
-      let same = layout_end has store.root_there in
-      inl (ap Damaged (past (omega (arith, end, same)) ∙ ap LogPlace same));
 }
 
--- its log ends too far
-pub refused_spent : {pages : Pages} {root : Root} {number : ℕ} {owners : List (Option PageKey)} → HasLayout pages root number owners → 2 * page_count owners ≤ root.slots → position_most ≤ root.end → IsRefused pages (Damaged (LogPlace root.end))
-refused_spent has half past = refused_damaged _ has half (inr (record { number = _; root = _; root_there = has.root_there; end = past; is = refl })) (λ is. cc (is)) (λ end. refl)
-
 -- by the fault of the pages
-refused_fault : {pages : Pages} {root : Root} {number : ℕ} {owners : List (Option PageKey)} (fault : PageFault) → HasLayout pages root number owners → 2 * page_count owners ≤ root.slots → root.end < position_most → ((place : Place) → fault ≡ PageDamaged place → IsNoStore pages) → ((place : Place) → fault ≡ PageDamaged place → place ≡ Room → ⊥) → IsRefused pages (open_error fault)
-refused_fault {pages = pages} PageDevice has half early none elsewhere = refused_device pages
-refused_fault (PageDamaged place) has half early none elsewhere = refused_damaged place has half (inl (none place refl)) (elsewhere place refl) (λ past. absurd (omega (arith, early, past)))
-refused_fault {pages = pages} PageNoMemory has half early none elsewhere = refused_memory pages
+refused_fault : {pages : Pages} {root : Root} {number : ℕ} {owners : List (Option PageKey)} (fault : PageFault) → HasLayout pages root number owners → 2 * page_count owners ≤ root.slots → ((place : Place) → fault ≡ PageDamaged place → IsNoStore pages)
+    → ((place : Place) → fault ≡ PageDamaged place → place ≡ Room → ⊥) → IsRefused pages (open_error fault)
+refused_fault {pages = pages} PageDevice has half none elsewhere = refused_device pages
+refused_fault (PageDamaged place) has half none elsewhere = refused_damaged place has half (none place refl) (elsewhere place refl)
+refused_fault {pages = pages} PageNoMemory has half none elsewhere = refused_memory pages
 
 -- ---- a device that didn't open
 
@@ -116,9 +109,6 @@ unopened_memory device = unopened_layout LacksMemory tt (λ pages told. refused_
 -- nor is damage
 pub unopened_room : {device : DeviceView} → Told device.disk IsOverfull → IsUnopened device (Damaged Room)
 unopened_room over = record { refused = λ pages told. refused_room (over pages told); right_size = λ is. cc (is) }
-
-pub unopened_spent : {device : DeviceView} {root : Root} {number : ℕ} {owners : List (Option PageKey)} → Told device.disk (λ pages. HasLayout pages root number owners) → 2 * page_count owners ≤ root.slots → position_most ≤ root.end → IsUnopened device (Damaged (LogPlace root.end))
-unopened_spent has half past = record { refused = λ pages told. refused_spent (has pages told) half past; right_size = λ is. cc (is) }
 
 -- nor is a fault of the pages
 fault_no_size : (fault : PageFault) → open_error fault ≡ WrongSize → ⊥
@@ -143,9 +133,10 @@ fault_has_layout (PageDamaged found) place is = cc (is)
 fault_has_layout PageNoMemory place is = cc (is)
 
 -- the pages were looked through, and are no store
-pub unopened_look : {device : DeviceView} {root : Root} {number : ℕ} {owners : List (Option PageKey)} (fault : PageFault) → Told device.disk (λ pages. HasLayout pages root number owners) → 2 * page_count owners ≤ root.slots → root.end < position_most → ((place : Place) → fault ≡ PageDamaged place → Told device.disk IsNoStore) → ((place : Place) → fault ≡ PageDamaged place → Told device.disk (λ pages. place ≡ Room → ⊥)) → IsUnopened device (open_error fault)
-unopened_look fault has half early none elsewhere = record {
-  refused = λ pages told. refused_fault fault (has pages told) half early (λ place is. none place is pages told) (λ place is. elsewhere place is pages told);
+pub unopened_look : {device : DeviceView} {root : Root} {number : ℕ} {owners : List (Option PageKey)} (fault : PageFault) → Told device.disk (λ pages. HasLayout pages root number owners) → 2 * page_count owners ≤ root.slots
+    → ((place : Place) → fault ≡ PageDamaged place → Told device.disk IsNoStore) → ((place : Place) → fault ≡ PageDamaged place → Told device.disk (λ pages. place ≡ Room → ⊥)) → IsUnopened device (open_error fault)
+unopened_look fault has half none elsewhere = record {
+  refused = λ pages told. refused_fault fault (has pages told) half (λ place is. none place is pages told) (λ place is. elsewhere place is pages told);
   right_size = fault_no_size fault;
 }
 
@@ -190,7 +181,7 @@ handed_back refused cause reads = record {
   no_layout = λ place is. reads;
   broken = λ place pages told broken. reads;
   overfull = λ pages told over. reads;
-  spent = λ pages told place is. reads;
+  spent = λ pages told is. reads;
   tables = λ pages told none. reads;
   keeps = λ position is pages told. widened (reads.moments (record { pages = pages; is = told })) (λ image left. inl left);
 }
@@ -204,7 +195,7 @@ handed_before {old = old} {mid = mid} reads is = record {
   no_layout = λ place is_at. reads_then reads (is.no_layout place is_at);
   broken = λ place pages told broken. reads_then reads (is.broken place pages (reads.contents ∙ told) broken);
   overfull = λ pages told over. reads_then reads (is.overfull pages (reads.contents ∙ told) over);
-  spent = λ pages told place spent. reads_then reads (is.spent pages (reads.contents ∙ told) place spent);
+  spent = λ pages told spent. reads_then reads (is.spent pages (reads.contents ∙ told) spent);
   tables = λ pages told none. reads_then reads (is.tables pages (reads.contents ∙ told) none);
   keeps = λ position at pages told.
       let read = reads.moments (record { pages = pages; is = told }) in
@@ -247,7 +238,7 @@ handed_sized size is = record {
   no_layout = λ place is_at. sized_reads size (is.no_layout place is_at);
   broken = λ place pages told broken. sized_reads size (is.broken place pages told broken);
   overfull = λ pages told over. sized_reads size (is.overfull pages told over);
-  spent = λ pages told place spent. sized_reads size (is.spent pages told place spent);
+  spent = λ pages told spent. sized_reads size (is.spent pages told spent);
   tables = λ pages told none. sized_reads size (is.tables pages told none);
   keeps = is.keeps;
 }
@@ -316,7 +307,7 @@ module _ {T : Type 0} {old : DeviceView} {mid new : StoreView} (fault : PageFaul
   pub refuses_store : ((stored : Stored) → IsReadFrom stored mid → IsRested stored → OnlyReads (device_below mid.pages) (device_below new.pages)) → IsHandedBack old (device_below new.pages) (open_error fault)
   refuses_store rested = record {
     refused = record {
-      refused = λ pages told. refused_fault fault (read.layout pages told) read.half read.early (no_store pages told) (λ place is. (at_log (record { pages = pages; is = told }) place is).0);
+      refused = λ pages told. refused_fault fault (read.layout pages told) read.half (no_store pages told) (λ place is. (at_log (record { pages = pages; is = told }) place is).0);
       right_size = fault_no_size fault;
     };
     cause = λ failed. rises_since read.reads.later (begins.failed (ap Err (fault_device fault failed)));
@@ -325,7 +316,7 @@ module _ {T : Type 0} {old : DeviceView} {mid new : StoreView} (fault : PageFaul
     no_layout = λ place is. absurd (fault_has_layout fault place is);
     broken = λ place pages told broken. absurd (layout_unbroken (read.layout pages told) place broken);
     overfull = λ pages told over. absurd (layout_room (read.layout pages told) read.half over);
-    spent = λ pages told place is. absurd (layout_unspent (read.layout pages told) read.early place is);
+    spent = λ pages told is. absurd (layout_unspent (read.layout pages told) read.early is);
     tables = λ pages told none. absurd (none (read.tables pages told));
     keeps = λ position is pages told.
         let told_is : IsTold old.disk = record { pages = pages; is = told } in

@@ -39,7 +39,7 @@ use Rattle.rss_store.specs.Shown.{HoldsTables, Shows}
 
 -- ---- the layout
 
--- a store whose log ends here or behind isn't opened
+-- A store whose log ends here or behind isn't opened: the positions to which a session may come would be no numbers.
 abbrev pub position_most : ℕ
 position_most = 2 ^ 62
 
@@ -160,25 +160,22 @@ pub record Begins {T : Type 0} (old new : StoreView) (result : Result T PageFaul
 abbrev pub IsNoStore : Pages → Type 0
 IsNoStore pages = (stored : Stored) → IsStore pages stored → ⊥
 
--- The positions of the log are used up, which shows at its end.
-pub record IsSpent (pages : Pages) (place : Place) : Type 0 where
+-- The positions of the log are used up.
+pub record IsSpent (pages : Pages) : Type 0 where
   pub number : ℕ
   pub root : Root
   pub root_there : HasRoot pages number root
   pub end : position_most ≤ root.end
-  pub is : place ≡ LogPlace root.end
 
 -- why the pages don't open
 pub record IsRefused (pages : Pages) (fault : OpenFault) : Type 0 where
   pub broken : (place : Place) → fault ≡ NotAStore place → IsBrokenAt place pages
   pub names : (place : Place) → IsBrokenAt place pages
       → (fault ≡ NotAStore place) ⊎ (fault ≡ DeviceFailed) ⊎ (fault ≡ LacksMemory)
-  pub no_store : (place : Place) → fault ≡ Damaged place → IsNoStore pages ⊎ IsSpent pages place
+  pub no_store : (place : Place) → fault ≡ Damaged place → IsNoStore pages
   pub only_overfull : fault ≡ Damaged Room → IsOverfull pages
   pub overfull : IsOverfull pages
       → (fault ≡ Damaged Room) ⊎ (fault ≡ DeviceFailed) ⊎ (fault ≡ LacksMemory)
-  pub spent : (stored : Stored) → IsStore pages stored → position_most ≤ stored.root.end
-      → (fault ≡ Damaged (LogPlace stored.root.end)) ⊎ (fault ≡ DeviceFailed) ⊎ (fault ≡ LacksMemory)
 
 -- A device didn't open, and this is the fault: why, where it tells its contents.
 pub record IsUnopened (device : DeviceView) (fault : OpenFault) : Type 0 where
@@ -232,7 +229,7 @@ pub record IsHandedBack (old back : DeviceView) (fault : OpenFault) : Type 0 whe
   pub broken : (place : Place) → Told old.disk (λ pages. IsBrokenAt place pages
       → OnlyReads old back)
   pub overfull : Told old.disk (λ pages. IsOverfull pages → OnlyReads old back)
-  pub spent : Told old.disk (λ pages. (place : Place) → IsSpent pages place → OnlyReads old back)
+  pub spent : Told old.disk (λ pages. IsSpent pages → OnlyReads old back)
   pub tables : Told old.disk (λ pages. (HasTables pages → ⊥) → OnlyReads old back)
   pub keeps : (position : ℕ) → fault ≡ Damaged (LogPlace position) → Told old.disk (λ pages.
       Passes old.disk back.disk (λ image. Leaves old.disk image ⊎ HasNamed pages image))
@@ -265,7 +262,7 @@ pub record OpensStore (old : DeviceView) (new : StoreView) : Type 0 where
   pub passes : PassesOpening old (device_below new.pages)
   pub unbroken : (place : Place) → Told old.disk (λ pages. IsBrokenAt place pages → ⊥)
   pub not_overfull : Told old.disk (λ pages. IsOverfull pages → ⊥)
-  pub not_spent : Told old.disk (λ pages. (place : Place) → IsSpent pages place → ⊥)
+  pub not_spent : Told old.disk (λ pages. IsSpent pages → ⊥)
   pub tables : Told old.disk HasTables
 
 -- So many of the pages may be in memory at once, or as many as there are slots where these are fewer.

@@ -1,5 +1,5 @@
 // The calls by which the disk is brought up to date.
-ghost use Rattle.std.specs.Prelude.{◌≡◌, ◌⊎◌, ◌+◌, ◌*◌, ◌≤◌, OnOk};
+ghost use Rattle.std.specs.Prelude.{◌≡◌, ◌⊎◌, ◌+◌, ◌*◌, ◌≤◌, OnOk, OnErr};
 ghost use Rattle.rss_base.specs.DiskRule.{Pages as DevicePages, IsTold, Leaves, WritesIn, Passes};
 ghost use Rattle.rss_base.specs.LogRecords.{record_size};
 ghost use Rattle.rss_base.specs.declared.log_record.LogRecord.TheVariants as records;
@@ -56,6 +56,8 @@ impl<S: Saving> DurableStore<S> {
         ensures size { size_of (view S.view self.new).root ≡ size_of (view S.view self.old).root }
         ensures version { OnOk result
             ((view S.view self.new).root.version ≡ (view S.view self.old).root.version) }
+        ensures checkpoint { (view S.view self.new).root.checkpoint
+            ≡ (view S.view self.old).root.checkpoint }
         ensures did { CommitsPages (view S.view self.old).pages (view S.view self.new).pages result }
         ensures catalog { (view S.view self.new).catalog ≡ (view S.view self.old).catalog }
     {
@@ -155,6 +157,8 @@ impl<S: Saving> DurableStore<S> {
         ensures writes { (view S.view self.new).pages.writes ≤ (view S.view self.old).pages.writes
             + new_pieces (view S.view self.old).root (view S.view self.old).log.end + 2 }
         ensures selected { OnOk result (Selects next (view S.view self.old) (view S.view self.new)) }
+        ensures unselected { OnErr result
+            ((view S.view self.new).root ≡ (view S.view self.old).root) }
         ensures stage { OnOk result
             ((S.saving self.old.tuples.pages).stage ≡ AnyStage.Saved next.area
             → (S.saving self.new.tuples.pages).stage ≡ AnyStage.Switched) }

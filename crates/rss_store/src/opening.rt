@@ -26,7 +26,7 @@ use rss_root::load;
 use rss_tuple::Store;
 use std::alloc::Global;
 
-/// A store whose log ends here or behind isn't opened.
+/// A store whose log ends here or behind isn't opened, so that the positions of a session stay numbers.
 const POSITION_MOST: u64 = 1 << 62;
 
 /// The selected root with its number, the map that it names, and its log.
@@ -80,7 +80,7 @@ fn read_layout<D: Device>(alloc: Global, device: &mut D) -> Result<Layout, OpenF
         return Err(OpenFault::Damaged(Place::Room));
     }
     if root.end >= POSITION_MOST {
-        return Err(OpenFault::Damaged(Place::Log(root.end)));
+        return Err(OpenFault::NoMemory);
     }
     let log = read_log(alloc, device, &root)?;
     Ok(Layout {
@@ -238,8 +238,8 @@ fn refused<D: Device>(store: DurableStore<Buffer<D>>, fault: PageFault) -> Unope
 /// hasn't as many tuples as the catalog says, or has more than it may have; at `Image` where an
 /// image hasn't the entries of its relation's tuples; or at a position of the log where no record
 /// stands that there should be, or one that doesn't fit the tables, or from which the records lead
-/// to more pages than there may be. A store whose log ends at 2^62 or behind it is `Damaged` at that
-/// position.
+/// to more pages than there may be. A store whose log ends at 2^62 or behind it is sound, but there are no
+/// positions for what more is logged: the answer is `NoMemory`.
 pub fn open<D: Device>(
     alloc: Global,
     device: D,

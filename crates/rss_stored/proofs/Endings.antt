@@ -5,6 +5,7 @@ use Rattle.std.proofs.lemmas.Bool.{true≢false}
 use Rattle.std.proofs.lemmas.Result.{err_from_is_err_and}
 use Rattle.rss_base.specs.DiskRule.{IsTold, Passes, WritesIn}
 use Rattle.rss_base.specs.Answers.{page_error}
+use Rattle.rss_base.specs.Devices.{DrivesOut}
 use Rattle.rss_base.specs.Faults.{Rises}
 use Rattle.rss_base.specs.declared.call.Call.{Call}
 use Rattle.rss_base.specs.declared.call.Call.TheVariants.{Insert, End}
@@ -27,7 +28,7 @@ use Rattle.rss_model.specs.Steps.StepBy.{refuses, defines}
 use Rattle.rss_stored.specs.Store.{OpensTo, OpensToEither}
 use Rattle.rss_model.specs.ReplyText.{IsShort}
 use Rattle.rss_model.specs.Costs.{RisesAtMost, most_writes, may_lack_memory}
-use Rattle.rss_stored.specs.Calls.{EngineView, MayWrite, GoesOn, GetsPlace, IsAnswer, IsOutcome, IsCallOf}
+use Rattle.rss_stored.specs.Calls.{EngineView, driven_of, WritesFree, MayWrite, GoesOn, GetsPlace, IsAnswer, IsOutcome, IsCallOf}
 
 -- a count that rises by so many at most, rises by no more than it may
 pub within_most : (most : Option ℕ) (n before now : ℕ) → IfSome most (λ m. n ≤ m) → now ≤ before + n → RisesAtMost most before now
@@ -39,14 +40,17 @@ none_within None = tt
 none_within (Some m) = omega arith
 
 -- where nothing is written no call writes more than it may
-pub writes_no_more : (old new : EngineView) (call : Call) → new.disk ≡ old.disk → new.writes ≡ old.writes → MayWrite old new call
-writes_no_more old new (End t) disk writes = (subst (WritesIn old.end_places old.disk) (sym disk) (writes_none old.disk), omega (arith, writes))
-writes_no_more old new call disk writes = within_most (most_writes call) 0 old.writes new.writes (none_within (most_writes call)) (omega (arith, writes))
+pub writes_no_more : (old new : EngineView) (call : Call) → new.disk ≡ old.disk → new.writes ≡ old.writes → DrivesOut (driven_of old) (driven_of new) → MayWrite old new call
+writes_no_more old new (End t) disk writes drives = (subst (WritesIn old.end_places old.disk) (sym disk) (writes_none old.disk), omega (arith, writes))
+writes_no_more old new call disk writes drives = record {
+  most = within_most (most_writes call) 0 old.writes new.writes (none_within (most_writes call)) (omega (arith, writes));
+  drives = λ none. drives;
+}
 
 -- a call that is no end writes no more than its bound
-pub writes_bound : (old new : EngineView) (call : Call) → ((t : ℕ) → call ≡ End t → ⊥) → RisesAtMost (most_writes call) old.writes new.writes → MayWrite old new call
-writes_bound old new (End t) other rises = absurd (other t refl)
-writes_bound old new call other rises = rises
+pub writes_bound : (old new : EngineView) (call : Call) → ((t : ℕ) → call ≡ End t → ⊥) → WritesFree old new call → MayWrite old new call
+writes_bound old new (End t) other writes = absurd (other t refl)
+writes_bound old new call other writes = writes
 
 -- a call that may lack memory is no end, nor is one of no transaction
 pub lacks_no_end : (call : Call) → may_lack_memory call ≡ true → (t : ℕ) → call ≡ End t → ⊥

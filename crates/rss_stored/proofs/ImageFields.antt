@@ -1,6 +1,6 @@
 -- The fields that an image's numbers choose have these numbers by their names.
 use Rattle.std.proofs.Common.{◌≡◌, ℕ, zero, suc, ◌+◌, ◌-◌, ◌<◌, List, [], ◌∷◌, length, get_or, refl, sym, ◌∙◌, ap, subst, arith}
-use Rattle.std.specs.Prelude.{Option, Some, None, All, option_map, unwrap_or, slice_get}
+use Rattle.std.specs.Prelude.{Option, Some, None, All, option_map, slice_get}
 use Rattle.std.specs.List.{cons_option}
 use Rattle.std.proofs.lemmas.Option.{same_Some}
 use Rattle.std.proofs.lemmas.List.Elements.{All-head, All-tail}
@@ -12,7 +12,7 @@ use Rattle.rss_base.specs.declared.value.FieldForm.{FieldForm}
 use Rattle.rss_base.specs.declared.field.FieldDef.{FieldDef}
 use Rattle.rss_base.specs.declared.image.ImageEntry.{ImageEntry}
 use Rattle.rss_base.specs.declared.relation.RelationEntry.{RelationEntry}
-use Rattle.rss_model.specs.Tables.{RelationDef, Definitions, fields_in}
+use Rattle.rss_model.specs.Tables.{Definitions, fields_in}
 use Rattle.rss_model.specs.Images.{number_from, field_number, numbers_of, key_kinds}
 use Rattle.rss_stored.specs.Store.{Defines, IsListedImage, image_definition}
 use Rattle.rss_model.proofs.Codes.{name_total, name_apart}

@@ -24,7 +24,7 @@ use Rattle.rss_page.specs.Surveyed.{held_at}
 use Rattle.rss_tuple.specs.Directory.{Bodies, Entries, contents_in, body_by, homes, overflows, bodies_of}
 use Rattle.rss_tuple.specs.Heaps.{IsHeap, AreLinked}
 use Rattle.rss_model.specs.Items.{is_name, name_cmp}
-use Rattle.rss_model.specs.Tables.{ImageDef, Definitions, Tables}
+use Rattle.rss_model.specs.Tables.{ImageDef, Tables}
 use Rattle.rss_model.specs.Images.{number_from, numbers_of}
 use Rattle.rss_model.specs.Fits.{is_field_of}
 use Rattle.rss_model.specs.Defining.{defined, with_definitions, with_image as with_image_def}

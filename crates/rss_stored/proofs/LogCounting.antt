@@ -15,10 +15,10 @@ use Rattle.rss_base.specs.LogRecords.{tid_bytes, place_bytes, sized_bytes, recor
 use Rattle.rss_base.specs.Listings.{Listing}
 use Rattle.rss_model.specs.Items.{Content}
 use Rattle.rss_model.specs.Tables.{Contents, Definitions, fields_in}
-use Rattle.rss_model.specs.Changes.{Change, mine, theirs, own, kept_to}
+use Rattle.rss_model.specs.Changes.{Change, mine, own, kept_to}
 use Rattle.rss_model.specs.Meter.{Stamp, Traffic, Meter, told_size, change_size, counts_for, counted, with_record}
 use Rattle.rss_model.specs.Steps.{stamp_by}
-use Rattle.rss_model.specs.Records.{LogEntry, Changed, Listed, changes_in, is_by, others_in, cut, listed}
+use Rattle.rss_model.specs.Records.{LogEntry, Changed, Listed, changes_in, is_by, cut, listed}
 use Rattle.rss_model.specs.Meanings.{IsChangeTold, TellsValues, Means, Logged, is_change, is_change_of, traffic_of, name_at, nameless}
 use Rattle.rss_model.specs.Ties.{StandsAt, here, older}
 use Rattle.rss_model.specs.EngineLogs.{EngineLog, newer_logged, lists_saved, lists_now, stamp_of, IsMeterOf, HaveFields}

@@ -1,5 +1,5 @@
 -- Each call has a step, so that a device that fails within it stops the call within a step.
-use Rattle.std.proofs.Common.{◌≡◌, inl, ℕ, ◌+◌, true, List, [], ◌∷◌, length, refl, ◌∙◌, ap, subst, arith}
+use Rattle.std.proofs.Common.{◌≡◌, inl, ℕ, ◌+◌, true, List, length, refl, ◌∙◌, ap, subst, arith}
 use Rattle.std.specs.Prelude.{Option, Some, None, is_some, Ok, Err}
 use Rattle.std.specs.FinMap as map
 use Rattle.rss_base.specs.DiskRule.{Disk, Passes}
@@ -12,18 +12,16 @@ use Rattle.rss_base.specs.declared.call.Call.TheVariants.{Begin, Save, Restore, 
 use Rattle.rss_base.specs.declared.answer.Reply.TheVariants.{Ok as Done, Tid as Identifier, Number, Tuple as TupleReply, Row, End as AtEnd, Nothing}
 use Rattle.rss_base.specs.declared.refusal.Refusal.{Refusal}
 use Rattle.rss_base.proofs.Moments.{widened}
-use Rattle.rss_model.specs.Tables.{LinkDef, Definitions, Tables}
+use Rattle.rss_model.specs.Tables.{LinkDef, Tables}
 use Rattle.rss_model.specs.Chains.{chain_with, HasParent}
-use Rattle.rss_model.specs.Defining.{DefinesNames, LocksGranule, defined, with_definitions}
+use Rattle.rss_model.specs.Defining.{DefinesNames, LocksGranule, defined}
 use Rattle.rss_model.specs.Commits.{MayCommit}
-use Rattle.rss_model.specs.Changes.{Change, own, undo}
-use Rattle.rss_model.specs.Items.{Content, parent_of}
+use Rattle.rss_model.specs.Changes.{own}
+use Rattle.rss_model.specs.Items.{parent_of}
 use Rattle.rss_model.specs.Images.{Entry}
 use Rattle.rss_model.specs.Kept.{Kept}
 use Rattle.rss_model.specs.Machine.{State, with_changes, now}
-use Rattle.rss_model.specs.Meter.{MayLead}
-use Rattle.rss_model.specs.Steps.{Answer, Step, tests, refusal, is_open, with_scan, with_given, MayUndo, undone_to, left_at, left_by, locked, holding, begun, with_save, restored, gone, changed, insertion, replacement, deletion, connection, disconnection, ended, redefined}
-use Rattle.rss_model.specs.Steps.MayUndo.{none, more}
+use Rattle.rss_model.specs.Steps.{Answer, Step, tests, refusal, is_open, with_scan, with_given, undone_to, left_at, left_by, locked, holding, begun, with_save, restored, gone, changed, insertion, replacement, deletion, connection, disconnection, ended, redefined}
 use Rattle.rss_model.specs.Rules.{saved_now}
 use Rattle.rss_model.specs.Refusals.{is_same, has_form, link_of}
 use Rattle.rss_model.specs.Scans.{RelationPath, ImagePath, LinkPath, Scan, scans_most, scan_of, new_scan, next_of_scan}

@@ -1,8 +1,9 @@
 -- A call on an engine, whichever call it is: what it leaves, by its result.
-use Rattle.std.specs.Prelude.{◌≡◌, ◌↔◌, ℕ, ◌+◌, ◌-◌, ◌^◌, ◌≤◌, true, List, Contains, Result, Ok, Err, IsErrOf}
+use Rattle.std.specs.Prelude.{◌≡◌, ◌↔◌, ◌⊎◌, ℕ, ◌+◌, ◌-◌, ◌^◌, ◌≤◌, true, false, List, Contains, Result, Ok, Err, IsErrOf}
 use Rattle.std.specs.List.{list_any}
 use Rattle.rss_base.specs.DiskRule.{Disk, Pages, IsTold, Leaves, Continues, WritesIn}
 use Rattle.rss_base.specs.DiskRule.{Places as DevicePlaces}
+use Rattle.rss_base.specs.Devices.{DrivenView, DrivesOut}
 use Rattle.rss_base.specs.Faults.{Rises}
 use Rattle.rss_base.specs.declared.name.Name.{Name}
 use Rattle.rss_base.specs.declared.tid.Tid.{Tid}
@@ -20,7 +21,7 @@ use Rattle.rss_model.specs.Steps.{Answer, relations_beside}
 use Rattle.rss_stored.specs.Store.{HoldsState}
 use Rattle.rss_stored.specs.Turns.{IsAnswered, IsStopped, IsUnmade}
 use Rattle.rss_model.specs.ReplyText.{IsShort}
-use Rattle.rss_model.specs.Costs.{RisesAtMost, most_asks, most_writes, may_lack_memory}
+use Rattle.rss_model.specs.Costs.{RisesAtMost, most_asks, most_writes, may_save, may_lack_memory}
 
 -- states of the machine
 abbrev pub States : Type 1
@@ -39,6 +40,9 @@ Places = Name → List Value → List Tid → Tid → Type 0
 -- slots: how many slots its device has for pages.
 -- calls: how many calls it was asked for.
 -- asks, writes, faults: how many pages were asked for, how many of the device written, and how many faults of it met.
+-- outs: how many pages were driven out of memory.
+-- free: which pages of its device no stop needs: the slots that no saved page has.
+-- saved: where in the log the record of the last checkpoint stands.
 -- end_places, end_most: which pages of its device an end may write, and how many.
 pub record EngineView : Type 1 where
   pub disk : Disk
@@ -50,20 +54,38 @@ pub record EngineView : Type 1 where
   pub asks : ℕ
   pub writes : ℕ
   pub faults : ℕ
+  pub outs : ℕ
+  pub free : DevicePlaces
+  pub saved : ℕ
   pub end_places : DevicePlaces
   pub end_most : ℕ
 
--- What a call may write: an end such pages alone, and so many of them; any other call no more pages than it may.
+-- its pages as they are driven out of memory
+abbrev pub driven_of : EngineView → DrivenView
+driven_of view = record { disk = view.disk; free = view.free; writes = view.writes; outs = view.outs }
+
+-- A call takes no checkpoint if it is none that may, or if the engine is up after it and the last checkpoint is the one before it.
+abbrev pub TakesNone : EngineView → EngineView → Call → Type 0
+TakesNone old new call = (may_save call ≡ false) ⊎ (new.is_up × (new.saved ≡ old.saved))
+
+-- What a call writes that is no end: no more pages than it may. If it takes no checkpoint these are free, and no more than a run for each page that is driven out of memory.
+pub record WritesFree (old new : EngineView) (call : Call) : Type 0 where
+  pub most : RisesAtMost (most_writes call) old.writes new.writes
+  pub drives : TakesNone old new call → DrivesOut (driven_of old) (driven_of new)
+
+-- What a call may write: an end such pages alone, and so many of them; any other call as follows.
 abbrev pub MayWrite : EngineView → EngineView → Call → Type 0
 MayWrite old new (End t) =
     WritesIn old.end_places old.disk new.disk × (new.writes ≤ old.writes + old.end_most)
-MayWrite old new call = RisesAtMost (most_writes call) old.writes new.writes
+MayWrite old new call = WritesFree old new call
 
--- What each call passes on, whatever it does: it costs no more than it may, a device tells its contents and its history as before, and no fault is forgotten.
+-- What each call passes on, whatever it does: it costs no more than it may, an engine that is up counts it, a device tells its contents and its history as before, and no fault is forgotten.
 pub record GoesOn (old new : EngineView) (call : Call) : Type 0 where
   pub asks : RisesAtMost (most_asks call) old.asks new.asks
   pub writes : MayWrite old new call
+  pub saves : may_save call ≡ false → new.saved ≡ old.saved
   pub calls : new.calls ≤ old.calls + 1
+  pub counted : old.is_up → new.calls ≡ old.calls + 1
   pub slots : new.slots ≡ old.slots
   pub told : IsTold old.disk → IsTold new.disk
   pub history : IsTold old.disk → Continues old.disk new.disk

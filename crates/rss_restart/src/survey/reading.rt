@@ -3,7 +3,7 @@ ghost use Rattle.std.specs.Prelude.{◌≡◌, ◌<◌, ◌≤◌, Err, IfErr, I
 ghost use Rattle.rss_base.specs.LogRecords.{Placed as PlacedRecord};
 ghost use Rattle.rss_base.specs.declared.fault.PageFault.TheVariants.{Damaged as PageDamaged};
 ghost use Rattle.rss_base.specs.declared.place.Place.{Place as AnyPlace};
-ghost use Rattle.rss_restart.specs.Reading.{Finds, IsReadFault, Reads, Stand, event_told};
+ghost use Rattle.rss_restart.specs.Reading.{Finds, IsBroken, IsReadFault, Reads, Stand, event_told};
 
 use crate::survey::bounds::Event;
 use crate::survey::walk::Placed;
@@ -40,6 +40,8 @@ pub(crate) fn read_records(
 }
 
 /// The record that begins at a position and ends at another one at most, and the position behind it.
+/// It takes no memory. Its one error is damage: at the position where no record begins, and at the
+/// other one where a record goes beyond it.
 fn next_record(log: &Log, at: u64, until: u64) -> Result<(Placed, u64), PageFault>
     requires low { log.now.head ≤ at }
     requires some { at < until }
@@ -49,7 +51,7 @@ fn next_record(log: &Log, at: u64, until: u64) -> Result<(Placed, u64), PageFaul
     ensures later { IfOk result (λ found. at < found.1) }
     ensures sound { IfErr result (λ fault.
         (ps : List PlacedRecord) → Stand log.now at ps until → ⊥) }
-    ensures fault { IfErr result (IsReadFault log.now) }
+    ensures fault { IfErr result (IsBroken log.now at until) }
 {
     let Some((found, next)) = log.try_at(at) else {
         return Err(PageFault::Damaged(Place::Log(at)));

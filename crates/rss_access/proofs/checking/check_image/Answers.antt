@@ -1,6 +1,7 @@
 -- What a check finds of the image is what it has where it shows tables, and the other way round.
 use Rattle.std.proofs.Common.{◌+◌, ℕ, take, sym, ◌∙◌, subst, arith}
 use Rattle.rss_base.specs.TupleTypes.{kinds, chosen, key_width}
+use Rattle.rss_base.proofs.Looking.{passed_on}
 use Rattle.rss_base.proofs.Steps.{then, then_call, done, fails}
 use Rattle.rss_node.specs.Nodes.{AreNodes}
 use Rattle.rss_tuple.proofs.Seen.{heaps_after}
@@ -87,3 +88,11 @@ returns-clause-heaps g c = λ told.
 
 pub returns-clause-did : goal.returns-clause-did
 returns-clause-did g c = looks (done _ (then c.in_ok-census.ensures.did.1.step c.in_ok-has_entries.ensures.did.1.step))
+
+pub returns-in_err-has_entries-clause-place : goal.returns-in_err-has_entries-clause-place
+returns-in_err-has_entries-clause-place g c = λ place is told.
+    absurd (c.in_err-has_entries.ensures.did.1.sound place (passed_on _ c.from_residual-in_err-has_entries.ensures.1 is) (c.in_ok-census.ensures.did.1.step.passes.leaves.told.0 told))
+
+pub returns-in_err-has_entries-clause-none : goal.returns-in_err-has_entries-clause-none
+returns-in_err-has_entries-clause-none g c = λ place is told tables image relation shows listed sound.
+    c.in_err-has_entries.ensures.did.1.sound place (passed_on _ c.from_residual-in_err-has_entries.ensures.1 is) (c.in_ok-census.ensures.did.1.step.passes.leaves.told.0 told)

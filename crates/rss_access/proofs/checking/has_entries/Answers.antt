@@ -4,7 +4,7 @@ use Rattle.rss_entries.specs.Keyed.{kinds_of}
 use Rattle.rss_base.proofs.Steps.{then, then_call, done, fails}
 use Rattle.rss_tuple.proofs.Seen.{heaps_after}
 use Rattle.std.proofs.Math.Logic.{∥∥₁_map}
-use Rattle.rss_access.proofs.Walked.{image_still, tuple_then, looked_all, looked_more}
+use Rattle.rss_access.proofs.Walked.{image_still, tuple_then, looked_all, looked_more, looked_none}
 use Rattle.rss_access.proofs.checking.has_entries.Goals as goal
 
 pub next_live-requires-clause-heaps : goal.next_live-requires-clause-heaps
@@ -43,3 +43,6 @@ has_entry-requires-clause-there g c = λ told_mid.
 
 pub returns-clause-all : goal.returns-clause-all
 returns-clause-all g c = λ is told. looked_all c.loop-tid.invariant told ((rw c.in_default.is at c.in_ok-tid.ensures.next) (c.loop-tid.invariant.step.passes.leaves.told.0 told))
+
+pub loop-tid-init : goal.loop-tid-init
+loop-tid-init g c = looked_none c.args.catalog.now.listing (kinds_of c.args.key) c.args.number c.args.image.now (g.P.Pages.view c.args.tuples.now.pages)

@@ -91,3 +91,6 @@ returns-clause-heaps g c = λ told.
 
 pub returns-clause-did : goal.returns-clause-did
 returns-clause-did g c = searched _ (λ is. absurd (cc)) (then c.loop-entries.invariant.0.step c.in_ok-tid.ensures.did.below.step)
+
+pub returns-then-relation-gt-TUPLES_MOST-clause-did : goal.returns-then-relation-gt-TUPLES_MOST-clause-did
+returns-then-relation-gt-TUPLES_MOST-clause-did g c = searched {most = 0} _ (λ is. absurd (cc)) (rests (g.P.Pages.view c.args.tuples.now.pages))

@@ -3,7 +3,7 @@ use Rattle.std.proofs.lemmas.Result.{err_from_is_err_and}
 use Rattle.rss_stored.specs.Store.{at_root, at_map}
 use Rattle.rss_base.proofs.Moments.{reads_none}
 use Rattle.rss_pagemap.proofs.Areas.{one_answer}
-use Rattle.rss_store.proofs.Unopened.{refused_layout, unopened_layout, unopened_room, unopened_spent, opens_then}
+use Rattle.rss_store.proofs.Unopened.{refused_layout, unopened_layout, unopened_memory, unopened_room, opens_then}
 use Rattle.rss_store.proofs.opening.read_layout.Goals as goal
 
 -- ---- the layout is out of form
@@ -43,6 +43,4 @@ returns-then-pages_in-root-clause-refused g c = unopened_room (λ pages told. re
 -- ---- its log ends too far
 
 pub returns-then-root-ge-POSITION_MOST-clause-refused : goal.returns-then-root-ge-POSITION_MOST-clause-refused
-returns-then-root-ge-POSITION_MOST-clause-refused g c = unopened_spent
-    (λ pages told. record { root_there = c.in_ok-root.ensures.found pages told; map = c.in_ok-table.ensures.found pages (c.load.ensures.did.reads.contents ∙ told) })
-    (omega (arith, c.pages_in.ensures.pages, c.if-pages_in-root.false)) (omega (arith, c.if-root-ge-POSITION_MOST.true))
+returns-then-root-ge-POSITION_MOST-clause-refused g c = unopened_memory _

@@ -24,7 +24,7 @@ returns-in-Err-clause-refused g c =
     (subst (λ (d : _). IsHandedBack (g.D.Device.view d) (g.D.Device.view c.into_device.result) (open_error c.in-Err.fault)) c.in_ok-pages.ensures.device
     (subst (λ (d : _). IsHandedBack (g.D.Device.view (device_of c.in_ok-pages.pages)) (g.D.Device.view d) (open_error c.in-Err.fault)) (sym (c.into_device.ensures ∙ ap (λ (b : _). device_of b) c.into_pages.ensures))
     (handed_back
-    (unopened_look c.in-Err.fault (λ pages told. c.requires.holds pages (back ∙ told)) (omega (arith, c.requires.layout.half, c.requires.layout.slots)) c.requires.layout.early
+    (unopened_look c.in-Err.fault (λ pages told. c.requires.holds pages (back ∙ told)) (omega (arith, c.requires.layout.half, c.requires.layout.slots))
     (λ place is pages told. lacks_tables c.requires.layout (saveable_by c.in_ok-pages.pages.holds) c.in_ok-pages.ensures.fresh (λ read key. holds_by (buffer_view c.in_ok-pages.pages) key)
     (λ p read. c.requires.holds p (back ∙ read)) (λ p read. c.in_ok-pages.ensures.held p (back ∙ read))
     (record { pages = pages; is = told }) ((subst (λ (b : _). FindsNone (pages_view (buffer_view b)) place) c.new-tuples.ensures (c.in-Err.ensures.none place (ap Err is))).none (record { pages = pages; is = told })))

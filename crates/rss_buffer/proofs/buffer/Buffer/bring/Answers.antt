@@ -1,11 +1,11 @@
-use Rattle.std.proofs.Common.{List, is_some, option_map, sym, ap, ◌∙◌, arith}
+use Rattle.std.proofs.Common.{List, is_some, option_map, sym, ap, ◌∙◌}
 use Rattle.std.proofs.lemmas.Bool.{true≢false}
 use Rattle.rss_base.proofs.Moments.{same_device}
 use Rattle.rss_frames.specs.Entries.{Held, entries, newest as newest_of}
 use Rattle.rss_frames.proofs.Looked.{none_fronted, none_entry}
 use Rattle.rss_frames.specs.Frames.{FrameOf}
 use Rattle.rss_buffer.proofs.Lookups.{none_from, used_shown, newest_there, newest_used}
-use Rattle.rss_buffer.proofs.Turns.{IsBuffer-same, KeepsPages-same, MovesPages-keeps, MovesPages-same}
+use Rattle.rss_buffer.proofs.Turns.{IsBuffer-same, KeepsPages-same, puts_none, MovesPages-keeps, MovesPages-same}
 use Rattle.rss_buffer.proofs.buffer.Buffer.bring.Goals as goal
 
 pub invariant_of-self : goal.invariant_of-self
@@ -20,7 +20,7 @@ pub returns-then-touch-clause-stays : goal.returns-then-touch-clause-stays
 returns-then-touch-clause-stays g c = λ other newest. ap (λ (f : FrameOf). is_some (f other)) (used_shown _ _ c.touch.ensures.used) ∙ newest_there _ other newest
 
 pub returns-then-touch-clause-did : goal.returns-then-touch-clause-did
-returns-then-touch-clause-did g c = rw c.touch.ensures.used.room_is (MovesPages-keeps _ (KeepsPages-same (used_shown _ _ c.touch.ensures.used)) (omega arith))
+returns-then-touch-clause-did g c = rw c.touch.ensures.used.room_is (MovesPages-keeps _ (KeepsPages-same (used_shown _ _ c.touch.ensures.used)) puts_none)
 
 pub returns-then-touch-clause-idle : goal.returns-then-touch-clause-idle
 returns-then-touch-clause-idle g c = λ there. record { device = same_device _; in_memory = λ i key. is_some ((used_shown _ _ c.touch.ensures.used) i key) }

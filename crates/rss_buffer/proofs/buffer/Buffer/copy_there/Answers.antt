@@ -1,4 +1,4 @@
-use Rattle.std.proofs.Common.{◌≡◌, ◌∙◌, ℕ, None, Some, option_map, refl, ap, sym, arith, List, Option}
+use Rattle.std.proofs.Common.{◌≡◌, ◌∙◌, ℕ, None, Some, option_map, refl, ap, sym, List, Option}
 use Rattle.rss_base.specs.PageMap.{owner_of}
 use Rattle.rss_base.specs.declared.key.PageKey.{PageKey}
 use Rattle.rss_base.proofs.Copies.{copies_page}
@@ -7,7 +7,7 @@ use Rattle.rss_shadow.proofs.Owned.{HasPage-mapped}
 use Rattle.rss_frames.specs.Frames.{frame_of, frame_in}
 use Rattle.rss_buffer.specs.Devices.{buffer_view}
 use Rattle.rss_buffer.proofs.Lookups.{bytes_frame, copied_shown}
-use Rattle.rss_buffer.proofs.Turns.{KeepsPages-rests, mapped_there}
+use Rattle.rss_buffer.proofs.Turns.{KeepsPages-rests, puts_none, mapped_there}
 use Rattle.rss_buffer.proofs.Changed.{Reslots-moves, Fits-changed, changes_page, held-there, IsBuffer-changes, passes_on, changed-off, writes_page}
 use Rattle.rss_buffer.proofs.buffer.Buffer.copy_there.Goals as goal
 
@@ -49,4 +49,4 @@ returns-clause-did g c =
     let re = Reslots-moves self.shadow c.first_write.new.self c.args.to c.first_write.result self.holds.laid_out.table self.holds.laid_out.room c.first_write.ensures.moves in
     let is = mapped_there {b = buffer_view self} self.holds c.args.to c.requires.to in
     let change = changes_page (buffer_view self) _ self.holds re (copied_shown c.requires.apart c.copy.ensures) c.forget.ensures (λ space. self.holds.noted.mapped c.args.to space ∙ is) in
-    rw c.copy.ensures.now.room_is ((wrote {T = ℕ} {asks = 0} {outs = 0} 0 (passes_on change rests (omega arith)) (changed-off change rests) (writes_page rests change is)).step)
+    rw c.copy.ensures.now.room_is ((wrote {T = ℕ} {asks = 0} {outs = 0} 0 (passes_on change rests puts_none) (changed-off change rests) (writes_page rests change is)).step)

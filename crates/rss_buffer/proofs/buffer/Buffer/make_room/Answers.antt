@@ -5,18 +5,20 @@ use Rattle.rss_buffer.specs.Buffered.{IsFilled}
 use Rattle.rss_buffer.specs.Devices.{buffer_view}
 use Rattle.rss_buffer.proofs.Fitting.{frames_few}
 use Rattle.rss_buffer.proofs.Lookups.{with_frame-other, none_from, gone_shown, newest_there, on_err, eldest_there, eldest_none, eldest_apart}
-use Rattle.rss_buffer.proofs.Turns.{none_more-removed, KeepsPages-rests, KeepsPages-then, KeepsPages-removed, IsBuffer-removed, MovesPages-keeps, cause_fails}
+use Rattle.rss_buffer.proofs.Turns.{none_more-removed, KeepsPages-rests, KeepsPages-then, KeepsPages-removed, KeepsPages-driven, IsBuffer-removed, IsBuffer-beside, puts_none, puts_one, MovesPages-keeps, cause_fails}
 use Rattle.rss_buffer.proofs.buffer.Buffer.make_room.Goals as goal
 
 pub returns-then-not-is_full-clause-did : goal.returns-then-not-is_full-clause-did
-returns-then-not-is_full-clause-did g c = MovesPages-keeps _ (KeepsPages-rests _) (omega arith)
+returns-then-not-is_full-clause-did g c = MovesPages-keeps _ (KeepsPages-rests _) puts_none
 
 pub returns-in_err-write_out-clause-did : goal.returns-in_err-write_out-clause-did
-returns-in_err-write_out-clause-did g c = record {
-  keeps = c.write_out.ensures.did.keeps;
-  few = c.write_out.ensures.few;
-  cause = cause_fails _ c.from_residual.ensures.1 c.in_err-write_out.ensures.did.cause;
-}
+returns-in_err-write_out-clause-did g c =
+    let did = c.write_out.ensures.did in
+    record {
+      keeps = KeepsPages-driven did.keeps;
+      puts = puts_one (omega (arith, did.outs, c.one_more-self.ensures.more)) (did.outs ∙ c.one_more-self.ensures.is) c.write_out.ensures.few;
+      cause = cause_fails _ c.from_residual.ensures.1 c.in_err-write_out.ensures.did.cause;
+    }
 
 pub returns-in_err-write_out-clause-full : goal.returns-in_err-write_out-clause-full
 returns-in_err-write_out-clause-full g c =
@@ -26,7 +28,10 @@ returns-in_err-write_out-clause-full g c =
     on_err _ filled
 
 pub invariant_of-self : goal.invariant_of-self
-invariant_of-self g c =
+invariant_of-self g c = record { saved_area = c.args.self.now.saved_area; holds = IsBuffer-beside c.args.self.now.holds c.args.self.now.holds.noted }
+
+pub invariant_of-self-2 : goal.invariant_of-self-2
+invariant_of-self-2 g c =
     let mid = c.write_out.new.self in
     record { saved_area = mid.saved_area; holds = rw c.remove.ensures.gone.room_is (IsBuffer-removed mid.holds c.in-Some.key c.in_ok-write_out.ensures.written (gone_shown _ _ c.remove.ensures.gone)) }
 
@@ -39,7 +44,10 @@ returns-clause-none_more g c = λ key none.
 pub returns-clause-did : goal.returns-clause-did
 returns-clause-did g c =
     let mid = c.write_out.new.self in
-    rw c.remove.ensures.gone.room_is (MovesPages-keeps _ (KeepsPages-then c.write_out.ensures.did.keeps (KeepsPages-removed mid.holds c.in-Some.key c.in_ok-write_out.ensures.written (gone_shown _ _ c.remove.ensures.gone))) c.write_out.ensures.few)
+    let did = c.write_out.ensures.did in
+    rw c.remove.ensures.gone.room_is (MovesPages-keeps _
+    (KeepsPages-then (KeepsPages-driven did.keeps) (KeepsPages-removed mid.holds c.in-Some.key c.in_ok-write_out.ensures.written (gone_shown _ _ c.remove.ensures.gone)))
+    (puts_one (omega (arith, did.outs, c.one_more-self.ensures.more)) (did.outs ∙ c.one_more-self.ensures.is) c.write_out.ensures.few))
 
 pub unreachable-requires : goal.unreachable-requires
 unreachable-requires g c = omega (arith, c.args.self.now.holds.least, c.is_full.ensures.full.0 c.if-not-is_full.false, ap length (eldest_none (entries c.args.self.now.frames) c.in_default.ensures))

@@ -32,6 +32,7 @@ returns-clause-held g c =
       area = c.args.root.now.area;
       stage = Changing;
       asks = 0;
+      outs = 0;
       room = room c.in-Ok.frames;
     } in
     rw parts.maps

@@ -1,4 +1,4 @@
-use Rattle.std.proofs.Common.{rules, ◌≡◌, ◌∙◌, inl, inr, List, Some, is_some, option_map, ap, arith}
+use Rattle.std.proofs.Common.{rules, ◌≡◌, ◌∙◌, inl, inr, List, Some, is_some, option_map, ap}
 use Rattle.rss_frames.specs.Entries.{Held, newest}
 use Rattle.rss_base.specs.PageMap.{owner_of}
 use Rattle.rss_base.specs.StoredPages.{mapped_by}
@@ -6,7 +6,7 @@ use Rattle.rss_shadow.specs.Maps.{Maps}
 use Rattle.rss_frames.specs.Frames.{frame_in, frame_among, FrameOf}
 use Rattle.rss_buffer.proofs.Lookups.{stays-with, came_shown}
 use Rattle.rss_shadow.proofs.Owned.{HasPage-mapped}
-use Rattle.rss_buffer.proofs.Turns.{either, IsBuffer-same, KeepsPages-same, IsBuffer-rests, KeepsPages-read, IsBuffer-loads, KeepsPages-loads, KeepsPages-then, MovesPages-keeps, MovesPages-fails}
+use Rattle.rss_buffer.proofs.Turns.{either, IsBuffer-same, KeepsPages-same, IsBuffer-rests, KeepsPages-read, IsBuffer-loads, KeepsPages-loads, KeepsPages-then, puts_still, MovesPages-keeps, MovesPages-fails}
 use Rattle.rss_buffer.proofs.buffer.Buffer.read_in.Goals as goal
 
 -- ---- there is no room
@@ -41,7 +41,7 @@ returns-in_err-read_in-clause-did g c =
     let did = c.read_in.ensures.did in
     record {
       keeps = rw c.read_in.ensures.room (KeepsPages-then room.keeps (KeepsPages-then (KeepsPages-read c.make_room.new.self.holds did.reads) (KeepsPages-same (ap frame_among c.in_err-read_in.ensures.err))));
-      few = omega (arith, room.few, did.reads.same_writes);
+      puts = puts_still room.puts did.reads.same_writes;
       cause = search rules;
     }
 
@@ -66,4 +66,4 @@ returns-clause-did g c =
     let came = c.in_ok-read_in.ensures.ok in
     let owned : owner_of self.shadow.current c.from.result ≡ Some c.args.key = ap (owner_of self.shadow.current) c.from.ensures ∙ c.in-Some.ensures.some in
     let none = c.make_room.ensures.none_more c.args.key c.requires.absent in
-    rw c.read_in.ensures.room (MovesPages-keeps _ (KeepsPages-then room.keeps (KeepsPages-loads self.holds did.reads c.args.key c.from.result came.bytes none owned came.read (inl (came_shown came)))) (omega (arith, room.few, did.reads.same_writes)))
+    rw c.read_in.ensures.room (MovesPages-keeps _ (KeepsPages-then room.keeps (KeepsPages-loads self.holds did.reads c.args.key c.from.result came.bytes none owned came.read (inl (came_shown came)))) (puts_still room.puts did.reads.same_writes))

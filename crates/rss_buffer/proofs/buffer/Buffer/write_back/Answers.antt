@@ -1,5 +1,5 @@
 use Rattle.std.proofs.Common.{rules, ℕ, ◌+◌, ◌≤◌, length, refl, ap, arith}
-use Rattle.rss_buffer.proofs.Runs.{run_of, holds-run, loose-run, run_waits, run_settled, waits-settled, IsBuffer-failed, KeepsPages-failed, IsBuffer-written, KeepsPages-written}
+use Rattle.rss_buffer.proofs.Runs.{run_of, holds-run, run_waits, run_settled, waits-settled, IsBuffer-failed, KeepsPages-failed, IsBuffer-written, KeepsPages-written}
 use Rattle.rss_buffer.proofs.Turns.{WritesPages-none}
 use Rattle.rss_buffer.proofs.Waits.{settles-run, writes-run}
 use Rattle.rss_buffer.specs.Devices.{buffer_view}
@@ -34,7 +34,7 @@ returns-in_err-write_run-clause-did g c =
     let writes = run_of {b = buffer_view self} run c.current-owners.ensures.current c.gather-count.ensures.gathered (omega (arith, c.if-count-eq0.false)) few c.first.ensures place did in
     record {
       keeps = KeepsPages-failed self.holds writes (omega (arith, g.met.D.Device.limited self.device, c.write_run.ensures.counts)) did.cause.later;
-      loose = loose-run self.holds writes;
+      outs = refl;
       settles = search rules;
       few = writes-run _ _ (run_waits self.holds writes) writes.few;
       fault = search rules;
@@ -69,7 +69,7 @@ returns-clause-did g c =
     let waits = run_waits self.holds writes in
     record {
       keeps = rw c.settle.ensures.room (KeepsPages-written self.holds writes settled (omega (arith, g.met.D.Device.limited self.device, c.write_run.ensures.counts)) did.cause.later);
-      loose = loose-run self.holds writes;
+      outs = refl;
       settles = settles-run waits (run_settled self.holds writes settled) (waits-settled self.holds writes settled) writes.few;
       few = writes-run _ _ waits writes.few;
       fault = tt;

@@ -1,8 +1,8 @@
-use Rattle.std.proofs.Common.{None, refl, arith}
+use Rattle.std.proofs.Common.{None, refl}
 use Rattle.rss_base.proofs.Steps.{gave}
 use Rattle.rss_buffer.specs.Devices.{buffer_view}
 use Rattle.rss_shadow.proofs.Owned.{HasPage-mapped}
-use Rattle.rss_buffer.proofs.Turns.{KeepsPages-rests}
+use Rattle.rss_buffer.proofs.Turns.{KeepsPages-rests, puts_none}
 use Rattle.rss_buffer.proofs.Lookups.{gone_shown}
 use Rattle.rss_buffer.proofs.Changed.{Reslots-loses, changes_page, IsBuffer-changes, passes_on, changed-off, gives_page}
 use Rattle.rss_buffer.proofs.pages.BufferPages.give.Goals as goal
@@ -29,4 +29,4 @@ returns-clause-did g c =
     let re = Reslots-loses self.shadow c.give.new.self c.args.key self.holds.laid_out.table self.holds.laid_out.room c.give.ensures.loses in
     let change = changes_page (buffer_view self) None self.holds re (gone_shown _ _ c.remove.ensures.gone) c.unmap.ensures (λ space. refl) in
     let rests = KeepsPages-rests (buffer_view self) in
-    rw c.remove.ensures.gone.room_is (gave _ (passes_on change rests (omega arith)) (changed-off change rests) (gives_page rests change))
+    rw c.remove.ensures.gone.room_is (gave _ (passes_on change rests puts_none) (changed-off change rests) (gives_page rests change))

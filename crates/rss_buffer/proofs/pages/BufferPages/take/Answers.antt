@@ -18,7 +18,7 @@ map-requires g c =
 pub returns-in_err-make_room-clause-did : goal.returns-in_err-make_room-clause-did
 returns-in_err-make_room-clause-did g c =
     let room = c.in_err-make_room.ensures.did in
-    fails_by _ c.from_residual.ensures.1 room.cause (keeps_step c.args.self.now.holds c.in_err-make_room.ensures.full room.keeps room.few)
+    fails_by _ c.from_residual.ensures.1 room.cause (keeps_step c.args.self.now.holds c.in_err-make_room.ensures.full room.keeps room.puts)
 
 -- ---- the page is mapped
 
@@ -53,4 +53,4 @@ returns-clause-did g c =
     let room : 0 < spare mid.shadow = subst (λ (m : Maps). 0 < spare m) (sym did.keeps.maps) c.requires.room in
     let re = Reslots-takes mid.shadow c.take-number.new.self c.args.segment c.args.space c.take-number.result mid.holds.laid_out.table room c.requires.low c.requires.high c.requires.space taken.least taken.gains in
     let change = changes_page (buffer_view mid) _ mid.holds re (put_shown _ _ c.put.ensures) c.map.ensures (λ space. space) in
-    rw c.put.ensures.room_is (took _ (passes_on change did.keeps did.few) (changed-off change did.keeps) (takes_page did.keeps change))
+    rw c.put.ensures.room_is (took _ (passes_on change did.keeps did.puts) (changed-off change did.keeps) (takes_page did.keeps change))

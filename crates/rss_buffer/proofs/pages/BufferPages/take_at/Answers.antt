@@ -17,7 +17,7 @@ take_at-requires-clause-lacking g c =
 pub returns-in_err-make_room-clause-did : goal.returns-in_err-make_room-clause-did
 returns-in_err-make_room-clause-did g c =
     let room = c.in_err-make_room.ensures.did in
-    fails_by _ c.from_residual.ensures.1 room.cause (keeps_step c.args.self.now.holds c.in_err-make_room.ensures.full room.keeps room.few)
+    fails_by _ c.from_residual.ensures.1 room.cause (keeps_step c.args.self.now.holds c.in_err-make_room.ensures.full room.keeps room.puts)
 
 -- ---- the page is mapped
 
@@ -42,4 +42,4 @@ returns-clause-did g c =
     let room = c.make_room.ensures.did in
     let re = Reslots-gained mid.holds.laid_out.table room.keeps.maps c.requires.room c.requires.allowed c.requires.unmapped c.take_at.ensures.gains in
     let change = changes_page (buffer_view mid) _ mid.holds re (put_shown _ _ c.put.ensures) c.map.ensures (λ space. space) in
-    rw c.put.ensures.room_is (took _ (passes_on change room.keeps room.few) (changed-off change room.keeps) (takes_page room.keeps change))
+    rw c.put.ensures.room_is (took _ (passes_on change room.keeps room.puts) (changed-off change room.keeps) (takes_page room.keeps change))

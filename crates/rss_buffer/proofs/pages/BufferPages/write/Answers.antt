@@ -19,7 +19,7 @@ first_write-requires g c =
 pub returns-in_err-make_room_for-clause-did : goal.returns-in_err-make_room_for-clause-did
 returns-in_err-make_room_for-clause-did g c =
     let room = c.in_err-make_room_for.ensures.did in
-    fails_by _ c.from_residual.ensures.1 room.cause (keeps_step c.args.self.now.holds c.in_err-make_room_for.ensures.full room.keeps room.few)
+    fails_by _ c.from_residual.ensures.1 room.cause (keeps_step c.args.self.now.holds c.in_err-make_room_for.ensures.full room.keeps room.puts)
 
 -- ---- the page is written
 
@@ -48,4 +48,4 @@ returns-clause-did g c =
     let re = Reslots-moves mid.shadow c.first_write.new.self c.args.key c.first_write.result mid.holds.laid_out.table mid.holds.laid_out.room c.first_write.ensures.moves in
     let is = ap (λ (m : Maps). mapped_by m.current c.args.key) c.make_room_for.ensures.did.keeps.maps ∙ c.requires in
     let change = changes_page (buffer_view mid) _ mid.holds re (put_shown _ _ c.put.ensures) c.forget.ensures (λ space. mid.holds.noted.mapped c.args.key space ∙ is) in
-    rw c.put.ensures.room_is (wrote _ (passes_on change room.keeps room.few) (changed-off change room.keeps) (writes_page room.keeps change c.requires))
+    rw c.put.ensures.room_is (wrote _ (passes_on change room.keeps room.puts) (changed-off change room.keeps) (writes_page room.keeps change c.requires))

@@ -16,7 +16,7 @@ pub returns-in_err-flush_all-clause-backing : goal.returns-in_err-flush_all-clau
 returns-in_err-flush_all-clause-backing g c = backing_kept c.flush_all.ensures.did.keeps
 
 pub returns-in_err-flush_all-clause-only : goal.returns-in_err-flush_all-clause-only
-returns-in_err-flush_all-clause-only g c = flush_writes c.args.self.now.shadow c.args.area c.args.self.now.holds.laid_out.place c.args.self.now.holds.laid_out.count c.flush_all.ensures.did.loose
+returns-in_err-flush_all-clause-only g c = flush_writes c.args.self.now.shadow c.args.area c.args.self.now.holds.laid_out.place c.args.self.now.holds.laid_out.count c.flush_all.ensures.did.keeps.loose
 
 pub returns-in_err-flush_all-clause-writes : goal.returns-in_err-flush_all-clause-writes
 returns-in_err-flush_all-clause-writes g c = λ keys has. omega (arith, c.flush_all.ensures.did.few keys has)
@@ -42,7 +42,7 @@ pub returns-in_err-write_table-clause-only : goal.returns-in_err-write_table-cla
 returns-in_err-write_table-clause-only g c =
     let flush = c.flush_all.ensures.did in
     let only = rw (c.current.ensures.current, flush.keeps.maps) at c.write_table.ensures.did.only in
-    save_writes c.args.self.now.shadow c.args.area c.args.self.now.holds.laid_out.place c.args.self.now.holds.laid_out.count flush.loose only
+    save_writes c.args.self.now.shadow c.args.area c.args.self.now.holds.laid_out.place c.args.self.now.holds.laid_out.count flush.keeps.loose only
 
 pub returns-in_err-write_table-clause-writes : goal.returns-in_err-write_table-clause-writes
 returns-in_err-write_table-clause-writes g c = λ keys has.
@@ -62,7 +62,7 @@ returns-clause-saved g c = λ told pages is.
     let old = c.args.self.now in
     let flush = c.flush_all.ensures.did in
     let held = held_by old.first_slot old.shadow.current (frame_in old.frames) (g.D.Device.view old.device).disk.contents in
-    let mid = flush.loose.told.0 told in
+    let mid = flush.keeps.loose.told.0 told in
     let stand : StandInSlots (slots_at (length old.shadow.current) old.log_pages) mid.pages old.shadow.current held = flushed_from c.flush_all.new.self.holds flush.keeps c.in_ok-flush_all.ensures.none_changed told mid.pages mid.is in
     let table : c.current.result.now ≡ old.shadow.current = c.current.ensures.current ∙ ap (λ (m : Maps). m.current) flush.keeps.maps in
     let holds = rw table at (c.in_ok-write_table.ensures.written mid.pages mid.is) in
@@ -78,7 +78,7 @@ pub returns-clause-only : goal.returns-clause-only
 returns-clause-only g c =
     let flush = c.flush_all.ensures.did in
     let only = rw (c.current.ensures.current, flush.keeps.maps) at c.write_table.ensures.did.only in
-    save_writes c.args.self.now.shadow c.args.area c.args.self.now.holds.laid_out.place c.args.self.now.holds.laid_out.count flush.loose only
+    save_writes c.args.self.now.shadow c.args.area c.args.self.now.holds.laid_out.place c.args.self.now.holds.laid_out.count flush.keeps.loose only
 
 pub returns-clause-writes : goal.returns-clause-writes
 returns-clause-writes g c = λ keys has.

@@ -1,6 +1,7 @@
 use Rattle.std.proofs.Common.{rules, arith, inl, None, refl}
 use Rattle.rss_device.proofs.Places.{changes_own, stored_gone, follows, placed_after, same_backing}
 use Rattle.rss_base.proofs.Calls.{leaves_rests}
+use Rattle.rss_base.proofs.Moments.{drives_nothing}
 use Rattle.rss_base.proofs.Steps.{gave}
 use Rattle.rss_device.proofs.mem_pages.MemPagesPages.give.Goals as goal
 
@@ -15,4 +16,4 @@ returns-clause-given c =
     record { mapped = follows.mapped; held = λ told. follows.held; notes = follows.notes }
 
 pub returns-clause-did : goal.returns-clause-did
-returns-clause-did c = gave _ (record { slots = search rules; backing = same_backing (search rules); leaves = leaves_rests _ _ _; later = omega arith; asks_low = omega arith; asks_high = omega arith; writes_low = omega arith; writes_high = omega arith }) (λ other is. inl is) (returns-clause-given c)
+returns-clause-did c = gave _ (record { slots = search rules; backing = same_backing (search rules); leaves = leaves_rests _ _ _; later = omega arith; asks_low = omega arith; asks_high = omega arith; writes_low = omega arith; writes_high = omega arith; outs_high = omega arith; drives = drives_nothing _ }) (λ other is. inl is) (returns-clause-given c)

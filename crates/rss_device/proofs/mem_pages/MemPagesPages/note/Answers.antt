@@ -1,7 +1,7 @@
 use Rattle.std.proofs.Common.{rules, refl, arith, ◌≡◌, ◌∙◌, Some, None, sym, ap}
 use Rattle.std.proofs.lemmas.List.{get_or_read}
 use Rattle.rss_base.proofs.Calls.{leaves_rests}
-use Rattle.rss_base.proofs.Moments.{same_device}
+use Rattle.rss_base.proofs.Moments.{same_device, drives_nothing}
 use Rattle.rss_base.proofs.Steps.{noted}
 use Rattle.rss_device.specs.MemPages.{place_at, page_in}
 use Rattle.rss_device.proofs.Places.{changes_own, stored_at, stored_put, follows, stays_mapped, held_kept, placed_after, same_backing}
@@ -29,4 +29,4 @@ pub returns-clause-idle : goal.returns-clause-idle
 returns-clause-idle c = record { device = same_device _; in_memory = (returns-clause-noted c).mapped }
 
 pub returns-clause-did : goal.returns-clause-did
-returns-clause-did c = noted (record { slots = search rules; backing = same_backing (search rules); leaves = leaves_rests _ _ _; later = omega arith; asks_low = omega arith; asks_high = omega arith; writes_low = omega arith; writes_high = omega arith }) (returns-clause-noted c)
+returns-clause-did c = noted (record { slots = search rules; backing = same_backing (search rules); leaves = leaves_rests _ _ _; later = omega arith; asks_low = omega arith; asks_high = omega arith; writes_low = omega arith; writes_high = omega arith; outs_high = omega arith; drives = drives_nothing _ }) (returns-clause-noted c)

@@ -1,6 +1,7 @@
 use Rattle.std.proofs.Common.{rules, arith, inl, ◌∙◌, None}
 use Rattle.rss_device.proofs.Places.{changes_own, stored_put, follows, stays_mapped, placed_after, same_backing}
 use Rattle.rss_base.proofs.Calls.{leaves_rests}
+use Rattle.rss_base.proofs.Moments.{drives_nothing}
 use Rattle.rss_base.proofs.Steps.{wrote}
 use Rattle.rss_device.proofs.mem_pages.MemPagesPages.write.Goals as goal
 
@@ -15,4 +16,4 @@ returns-clause-written c =
     record { mapped = follows.mapped ∙ stays_mapped _ c.args.key c.requires; held = λ told. follows.held; notes = follows.notes }
 
 pub returns-clause-did : goal.returns-clause-did
-returns-clause-did c = wrote _ (record { slots = search rules; backing = same_backing (search rules); leaves = leaves_rests _ _ _; later = omega arith; asks_low = omega arith; asks_high = omega arith; writes_low = omega arith; writes_high = omega arith }) (λ other is. inl is) (returns-clause-written c)
+returns-clause-did c = wrote _ (record { slots = search rules; backing = same_backing (search rules); leaves = leaves_rests _ _ _; later = omega arith; asks_low = omega arith; asks_high = omega arith; writes_low = omega arith; writes_high = omega arith; outs_high = omega arith; drives = drives_nothing _ }) (λ other is. inl is) (returns-clause-written c)

@@ -1,4 +1,5 @@
 use Rattle.std.proofs.Common.{ap, refl, sym, ◌∙◌, arith, ◌+◌}
+use Rattle.std.specs.Prelude.{is_ok}
 use Rattle.std.proofs.lemmas.Bool.{true≢false}
 use Rattle.rss_base.specs.LogRecords.{record_size, longest_record}
 use Rattle.rss_base.specs.Sizes.{largest_checkpoint}
@@ -24,7 +25,7 @@ returns-in_err-make-clause-did g c =
 pub returns-clause-did : goal.returns-clause-did
 returns-clause-did g c =
     change_made (ap (store_view g.S.Pages.view) c.reserve.ensures.store) c.reserve.ensures.shows c.reserve.ensures.saves c.make.ensures.goes
-    _ refl c.in_ok-saves_first.ensures.rules c.in_ok-make.ensures.makes c.make.ensures.moments
+    _ refl (ap is_ok c.in_ok-make.was) c.in_ok-saves_first.ensures.rules c.in_ok-make.ensures.makes c.make.ensures.moments
 
 pub make-requires-clause-weighed : goal.make-requires-clause-weighed
 make-requires-clause-weighed g c = c.reserve.ensures.weighs (relation_told c.args.change) (record_size (records.Change c.args.transaction c.args.change)) ∙ sym c.in_ok-saves_first.ensures.weighed

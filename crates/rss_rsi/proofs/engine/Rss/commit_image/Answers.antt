@@ -30,4 +30,4 @@ invariant_of-self-2 g c =
 pub returns-clause-did : goal.returns-clause-did
 returns-clause-did g c = λ to is.
     let redefine = c.in_ok-redefine.ensures in
-    image_done g.S.Pages.view is {result = Ok tt} redefine.goes redefine.moments refl redefine.shows
+    image_done g.S.Pages.view is {result = Ok tt} redefine.goes redefine.moments refl refl redefine.shows

@@ -15,7 +15,7 @@ returns-in_err-refused-clause-did g c =
     let failed = c.in_err-refused.ensures in
     asked g.S.Pages.view counted.session counted.locks counted.scans
     (failed_within _ c.from_residual-in_err-refused.ensures.1 counted.was_up (λ up. absurd (cc (up))) failed.goes
-    (goes_any (record { of_none = refl; asks = refl; writes = refl }) failed.goes (omega (arith, counted.counted)))
+    (goes_any (record { of_none = refl; asks = refl; writes = refl; saves = refl }) failed.goes (omega (arith, counted.counted)) (λ none. tt))
     (λ place is told state is_in. failed.sound place is told)
     (λ told state is_in. stopped_by (rss_parts g.S.Pages.view c.drop_image.new.self c.ask.new.self.locks c.ask.new.self.scans) failed.moments told is_in (may_define state (DropImage c.args.name.now) tt refl)))
 
@@ -39,7 +39,7 @@ commit_image-requires-clause-some g c =
     let ask = c.in_ok-ask.ensures in
     let taken = c.in_ok-refused.ensures in
     let to = asks_for g.S.Pages.view (DropImage c.args.name.now) store.session (told store.locks) (scans_told store.scans) store.calls in
-    (to, is_listed g.S.Pages.view to ask.session (drop_listed c.in_ok-refused.refused c.in_default.is taken.takes taken.says taken.moments taken.goes) tt (record { of_none = refl; asks = refl; writes = refl }) (store.ready ask.was_up) (ap told ask.locks) (ap scans_told ask.scans) c.requires.few ask.counted)
+    (to, is_listed g.S.Pages.view to ask.session (drop_listed c.in_ok-refused.refused c.in_default.is taken.takes taken.says taken.moments taken.goes) tt (record { of_none = refl; asks = refl; writes = refl; saves = refl }) (store.ready ask.was_up) (ap told ask.locks) (ap scans_told ask.scans) c.requires.few ask.counted)
 
 pub returns-clause-did : goal.returns-clause-did
 unfolding commit_image-requires-clause-some

@@ -23,7 +23,7 @@ returns-in_err-commit-clause-did g c =
     let failed = c.in_err-commit.ensures in
     asked g.S.Pages.view asked_so.session asked_so.locks asked_so.scans
     (failed_within _ c.from_residual-in_err-commit.ensures.1 asked_so.was_up (λ up. absurd (cc (up))) failed.goes
-    (goes _ failed.goes (omega (arith, asked_so.counted)) (omega (arith, failed.asks)) (end_writes (session_view g.S.Pages.view c.ask.new.self.session) (session_view g.S.Pages.view c.commit.new.self) failed.only failed.writes failed.appends))
+    (goes _ failed.goes (omega (arith, asked_so.counted)) (omega (arith, failed.asks)) (end_writes (session_view g.S.Pages.view c.ask.new.self.session) (session_view g.S.Pages.view c.commit.new.self) failed.only failed.writes failed.appends) (λ never. failed.checkpoint))
     (λ place is told state is_in. failed.sound place is told)
     (end_stops _ (record { session = session_view g.S.Pages.view c.commit.new.self; locks = told c.ask.new.self.locks; scans = scans_told c.ask.new.self.scans }) c.args.transaction c.in_ok-test_open.ensures.tests failed.moments))
 
@@ -33,7 +33,7 @@ returns-clause-did g c =
     let ended = c.in_ok-commit.ensures in
     asked g.S.Pages.view asked_so.session asked_so.locks asked_so.scans
     (comes_to asked_so.was_up
-    (goes _ ended.goes (omega (arith, asked_so.counted)) (omega (arith, ended.asks)) (end_writes (session_view g.S.Pages.view c.ask.new.self.session) (session_view g.S.Pages.view c.commit.new.self) ended.only ended.writes ended.appends))
+    (goes _ ended.goes (omega (arith, asked_so.counted)) (omega (arith, ended.asks)) (end_writes (session_view g.S.Pages.view c.ask.new.self.session) (session_view g.S.Pages.view c.commit.new.self) ended.only ended.writes ended.appends) (λ never. ended.checkpoint))
     (answers refl (omega arith) (λ told state is_in. tt) (end_leads _ _ c.args.transaction c.in_ok-test_open.ensures.tests ended.moments c.release_all.ensures.released c.close_all.ensures ended.shows)))
 
 pub invariant_of-self-2 : goal.invariant_of-self-2

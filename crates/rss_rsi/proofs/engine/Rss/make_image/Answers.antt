@@ -98,7 +98,7 @@ commit_image-requires-clause-some g c =
     let filled = c.in_ok-fill_image.ensures in
     let to = asks_for g.S.Pages.view (MakeImage c.args.name.now c.args.relation.now c.args.is_unique c.args.fields.now) store.session (told store.locks) (scans_told store.scans) store.calls in
     let listed = make_listed (session_of c.ask.new.self) (session_of c.image_entries.new.self) image.plans found.ends.1 image.tests c.in_ok-test_image_keys.ensures.tests image.closed c.in_ok-test_image_room.ensures.tests filled.makes filled.moments filled.goes in
-    (to, is_listed g.S.Pages.view to ask.session listed c.requires.name (record { of_none = refl; asks = refl; writes = refl }) (store.ready ask.was_up) (ap told (found.locks ∙ ask.locks)) (ap scans_told (found.scans ∙ ask.scans)) c.requires.few (found.calls ∙ ask.counted))
+    (to, is_listed g.S.Pages.view to ask.session listed c.requires.name (record { of_none = refl; asks = refl; writes = refl; saves = refl }) (store.ready ask.was_up) (ap told (found.locks ∙ ask.locks)) (ap scans_told (found.scans ∙ ask.scans)) c.requires.few (found.calls ∙ ask.counted))
 
 pub returns-clause-did : goal.returns-clause-did
 unfolding commit_image-requires-clause-some

@@ -43,4 +43,4 @@ invariant_of-self-2 g c =
 pub returns-clause-did : goal.returns-clause-did
 returns-clause-did g c = λ to is.
     let redefine = c.in_ok-redefine.ensures in
-    redefined_done g.S.Pages.view is (made_ok c.args.made c.in_default.not-Err) redefine.goes redefine.moments redefine.asks refl redefine.shows
+    redefined_done g.S.Pages.view is (made_ok c.args.made c.in_default.not-Err) redefine.goes redefine.moments redefine.asks refl refl redefine.shows

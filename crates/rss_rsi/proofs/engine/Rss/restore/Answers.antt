@@ -5,7 +5,7 @@ use Rattle.rss_lock.specs.Table.{told}
 use Rattle.rss_scan.specs.Scans.{told as scans_told}
 use Rattle.rss_session.specs.Parts.{view as session_view}
 use Rattle.rss_rsi.proofs.TransactionSteps.{restore_stops, restore_leads}
-use Rattle.rss_rsi.proofs.Ways.{asked, answers, goes, refused_test, failed_within, ready_stay}
+use Rattle.rss_rsi.proofs.Ways.{asked, answers, goes_bounded, refused_test, failed_within, ready_stay}
 use Rattle.rss_rsi.proofs.engine.Rss.restore.Goals as goal
 
 pub returns-in_err-test_open-clause-did : goal.returns-in_err-test_open-clause-did
@@ -28,7 +28,7 @@ returns-in_err-restore-clause-did g c =
     let asked_so = c.in_ok-ask.ensures in
     let failed = c.in_err-restore.ensures in
     asked g.S.Pages.view asked_so.session asked_so.locks asked_so.scans
-    (failed_within _ c.from_residual-in_err-restore.ensures.1 asked_so.was_up (λ up. absurd (cc (up))) failed.goes (goes _ failed.goes (omega (arith, asked_so.counted)) tt tt)
+    (failed_within _ c.from_residual-in_err-restore.ensures.1 asked_so.was_up (λ up. absurd (cc (up))) failed.goes (goes_bounded _ (λ t is. absurd (cc (is))) failed.goes (omega (arith, asked_so.counted)) tt tt (λ none. tt))
     (λ place is told state is_in. failed.sound place is told state is_in.kept is_in.shows)
     (restore_stops _ (record { session = session_view g.S.Pages.view c.restore.new.self; locks = told c.ask.new.self.locks; scans = scans_told c.ask.new.self.scans }) c.args.transaction c.args.save c.in_ok-test_open.ensures.open c.in_ok-test_open.ensures.tests c.in_ok-test_save.ensures.tests failed.moments))
 
@@ -37,7 +37,7 @@ returns-clause-did g c =
     let asked_so = c.in_ok-ask.ensures in
     let back = c.in_ok-restore.ensures in
     asked g.S.Pages.view asked_so.session asked_so.locks asked_so.scans
-    (comes_to asked_so.was_up (goes _ back.goes (omega (arith, asked_so.counted)) tt tt)
+    (comes_to asked_so.was_up (goes_bounded _ (λ t is. absurd (cc (is))) back.goes (omega (arith, asked_so.counted)) tt tt (λ none. tt))
     (answers refl (omega arith) (λ told state is_in. tt) (restore_leads _ _ c.args.transaction c.args.save c.in_ok-test_open.ensures.open c.in_ok-test_open.ensures.tests c.in_ok-test_save.ensures.tests back.moments (record { locks = refl; scans = refl }) back.shows)))
 
 pub invariant_of-self-2 : goal.invariant_of-self-2

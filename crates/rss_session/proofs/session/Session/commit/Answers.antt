@@ -65,7 +65,7 @@ returns-clause-moments g c = λ on state kept fit shows.
     c.commit.ensures.moments on state shows.store (may_commit c.args.transaction state own kept shows.counted.rooms fit)
 
 pub returns-clause-goes : goal.returns-clause-goes
-returns-clause-goes g c = goes_committed c.commit.ensures.did c.commit.ensures.size (gone_saves _ c.args.transaction c.gone.ensures.transactions)
+returns-clause-goes g c = goes_committed c.commit.ensures.did c.commit.ensures.size (gone_saves _ c.args.transaction c.gone.ensures.transactions) (λ none. none)
 
 pub returns-clause-still : goal.returns-clause-still
 returns-clause-still g c = λ none.

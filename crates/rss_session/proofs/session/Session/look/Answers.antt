@@ -1,7 +1,7 @@
 use Rattle.std.proofs.lemmas.Result.{IfOk-weaker}
 use Rattle.rss_base.proofs.Steps.{all_mapped, all_held}
 use Rattle.rss_session.specs.Parts.{view}
-use Rattle.rss_session.proofs.Looked.{finds_tuple}
+use Rattle.rss_session.proofs.Looked.{finds_at}
 use Rattle.rss_session.proofs.Behind.{costs_nothing}
 use Rattle.rss_session.proofs.Passing.{looks_on}
 use Rattle.rss_session.proofs.session.Session.look.Goals as goal
@@ -15,4 +15,4 @@ pub returns-clause-idle : goal.returns-clause-idle
 returns-clause-idle g c = costs_nothing c.find.ensures.did.step
 
 pub returns-clause-finds : goal.returns-clause-finds
-returns-clause-finds g c = IfOk-weaker c.find.result _ _ (λ there finds told. finds_tuple (finds told)) c.find.ensures.finds
+returns-clause-finds g c = IfOk-weaker c.find.result _ _ (λ found finds told. finds_at _ _ _ _ _ found (finds told)) c.find.ensures.finds

@@ -1,12 +1,13 @@
 use Rattle.std.proofs.Common.{◌≡◌, ◌∙◌, ℕ, Bool, true, ap, arith}
 use Rattle.std.specs.Prelude.{Ok}
 use Rattle.std.proofs.lemmas.Result.{on_ok_weaker}
+use Rattle.rss_base.specs.declared.root.Root.{Root}
 use Rattle.rss_base.proofs.Moments.{then}
 use Rattle.rss_model.specs.Rules.{saved_now}
 use Rattle.rss_model.proofs.OpenKeeping.{keeps_meter}
 use Rattle.rss_store.proofs.Altered.{fault_passed}
 use Rattle.rss_session.proofs.Made.{weighed_again, may_then, makes_then}
-use Rattle.rss_session.proofs.Passing.{goes_then}
+use Rattle.rss_session.proofs.Passing.{goes_if, goes_then, checks_failed, checkpoint_later}
 use Rattle.rss_store.proofs.Definitions.{same_then}
 use Rattle.rss_session.proofs.StaysOpen.{same_listed, same_stay}
 use Rattle.rss_session.proofs.session.Session.make.Goals as goal
@@ -48,7 +49,16 @@ returns-clause-moments g c = λ told state kept shows.
     (c.change-2.ensures.moments (checkpoint.goes.told.0 told) (record state { meter = saved_now state }) (keeps_meter kept (saved_now state)) (checkpoint.shows told state kept shows)) (λ image holds. holds)
 
 pub returns-clause-goes : goal.returns-clause-goes
-returns-clause-goes g c = goes_then c.in_ok-checkpoint.ensures.goes c.change-2.ensures.goes
+returns-clause-goes g c =
+    let change = c.change-2.ensures.goes in
+    let moved = ap (λ (r : Root). r.checkpoint) (change.unsaved tt).root ∙ c.in_ok-checkpoint.ensures.anew.checkpoint in
+    goes_then (goes_if (λ still. absurd (checkpoint_later c.requires.ready.store _ moved still.1)) c.in_ok-checkpoint.ensures.goes) (goes_if (λ still. tt) change)
+
+pub returns-then-not-saves_first-clause-goes : goal.returns-then-not-saves_first-clause-goes
+returns-then-not-saves_first-clause-goes g c = goes_if (λ still. tt) c.change.ensures.goes
+
+pub returns-in_err-checkpoint-clause-goes : goal.returns-in_err-checkpoint-clause-goes
+returns-in_err-checkpoint-clause-goes g c = checks_failed c.from_residual.result c.from_residual.ensures.1 c.in_err-checkpoint.ensures.goes
 
 pub returns-clause-stay : goal.returns-clause-stay
 returns-clause-stay g c =

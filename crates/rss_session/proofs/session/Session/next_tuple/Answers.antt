@@ -15,4 +15,4 @@ pub returns-clause-idle : goal.returns-clause-idle
 returns-clause-idle g c = costs_nothing c.find_next.ensures.did.1.step
 
 pub returns-clause-finds : goal.returns-clause-finds
-returns-clause-finds g c = IfOk-weaker c.find_next.result _ _ (λ found finds told. finds_next (view g.S.Pages.view c.args.self.now) c.args.segment c.args.number c.args.after found c.find_next.new.into (finds told)) c.find_next.ensures.finds
+returns-clause-finds g c = IfOk-weaker c.find_next.result _ _ (λ found finds told. finds_next (view g.S.Pages.view c.args.self.now) c.args.segment c.args.number c.args.after _ found (finds told)) c.find_next.ensures.finds

@@ -7,12 +7,13 @@ use Rattle.rss_base.specs.declared.key.Space.TheVariants.{Home, Overflow}
 use Rattle.rss_base.specs.declared.log_record.LogRecord.TheVariants as records
 use Rattle.rss_base.proofs.Moments.{started}
 use Rattle.rss_model.specs.Spares.{live_of}
+use Rattle.rss_trans.specs.Transactions.{transaction_in}
 use Rattle.rss_store.specs.Commits.{HasLogRoom, least_mark, CanCheckpoint, Saves}
 use Rattle.rss_store.specs.Parts.{view as store_view}
 use Rattle.rss_session.specs.Parts.{view}
 use Rattle.rss_session.specs.Sessions.{sums_in}
 use Rattle.rss_session.specs.Weighing.{survived_now}
-use Rattle.rss_session.proofs.Passing.{goes_damaged}
+use Rattle.rss_session.proofs.Passing.{goes_committed, goes_damaged, checks_failed, checkpoint_later}
 use Rattle.rss_session.proofs.Saved.{half, head_low, size_most, log_room, ready_saved}
 use Rattle.rss_session.proofs.session.Session.save_all.Goals as goal
 
@@ -25,6 +26,12 @@ returns-then-not-has_saved_room-clause-moments g c = λ on stored next can. star
 
 pub returns-then-not-has_saved_room-clause-goes : goal.returns-then-not-has_saved_room-clause-goes
 returns-then-not-has_saved_room-clause-goes g c = goes_damaged (view g.S.Pages.view c.args.self.now) _
+
+-- the store takes none
+pub returns-in_err-checkpoint-clause-goes : goal.returns-in_err-checkpoint-clause-goes
+returns-in_err-checkpoint-clause-goes g c =
+    let store = c.in_err-checkpoint.ensures in
+    checks_failed c.from_residual.result c.from_residual.ensures.1 (goes_committed store.did store.size (λ t. omega arith) (λ still. true≢false (sym still.0)))
 
 -- there is
 pub checkpoint-requires-clause-half : goal.checkpoint-requires-clause-half
@@ -106,3 +113,11 @@ returns-clause-appends g c =
     let is = c.marks-marks.ensures.marks in
     let few = subst (λ (marks : List (ℕ × ℕ)). length marks ≤ marks_most) is c.marks-marks.ensures.few in
     omega (arith, c.in_ok-checkpoint.ensures.appends, size_most c.requires.ready few, ap (λ (marks : List (ℕ × ℕ)). record_size (records.Checkpoint marks)) is)
+
+pub returns-clause-goes : goal.returns-clause-goes
+returns-clause-goes g c =
+    let store = c.in_ok-checkpoint.ensures in
+    let opened = (view g.S.Pages.view c.args.self.now).opened in
+    goes_committed store.did store.size
+    (λ t. omega (arith, ap (λ m. length (transaction_in (record opened { transactions = m }) t).saves) c.checkpointed.ensures.did.transactions))
+    (λ still. checkpoint_later c.requires.ready.store _ store.saves.checkpoint still.1)

@@ -1,6 +1,6 @@
 use Rattle.std.proofs.Common.{◌≤◌, length, refl, sym, ◌∙◌, subst, arith}
 use Rattle.rss_base.proofs.Calls.{leaves_then}
-use Rattle.rss_base.proofs.Moments.{rises_since}
+use Rattle.rss_base.proofs.Moments.{rises_since, drives_then}
 use Rattle.rss_trans.specs.Tables.{told}
 use Rattle.rss_trans.specs.Transactions.{Transaction}
 use Rattle.rss_session.specs.Parts.{view}
@@ -37,7 +37,7 @@ returns-in_err-undo_newest-clause-goes g c =
     let way = c.loop-position.invariant in
     let did = c.in_err-undo_newest.ensures.did in
     goes_left (view g.S.Pages.view c.args.self.now) (view g.S.Pages.view c.undo_newest.new.self) c.from_residual.result c.requires.ready (leaves_then way.leaves did.step.passes.leaves)
-    (omega (arith, way.later, did.step.passes.later)) (did.root ∙ way.root) (did.step.passes.backing ∙ way.backing)
+    (drives_then way.drives did.step.passes.drives) (omega (arith, way.later, did.step.passes.later)) (did.root ∙ way.root) (did.step.passes.backing ∙ way.backing)
     (λ is. rises_since way.later (did.failed (fault_same refl c.from_residual.ensures.1 is))) (λ is. did.memory (fault_same refl c.from_residual.ensures.1 is))
     (λ t. omega (arith, keeps_saves _ c.args.transaction _ way.opened.transactions (omega arith) t, c.in_err-undo_newest.ensures.saves t))
 
@@ -67,5 +67,5 @@ returns-clause-moments g c = keeps_left (view g.S.Pages.view c.args.self.now) (v
 pub returns-clause-goes : goal.returns-clause-goes
 returns-clause-goes g c =
     let way = c.loop-position.invariant in
-    goes_left (view g.S.Pages.view c.args.self.now) (view g.S.Pages.view c.loop-position.self) _ c.requires.ready way.leaves way.later way.root way.backing
+    goes_left (view g.S.Pages.view c.args.self.now) (view g.S.Pages.view c.loop-position.self) _ c.requires.ready way.leaves way.drives way.later way.root way.backing
     (λ is. absurd (cc (is))) (λ is. absurd (cc (is))) (keeps_saves _ c.args.transaction _ way.opened.transactions (omega arith))

@@ -1,4 +1,4 @@
-use Rattle.std.proofs.Common.{sym, ◌∙◌, ap, arith}
+use Rattle.std.proofs.Common.{refl, sym, ◌∙◌, ap, arith}
 use Rattle.std.proofs.lemmas.Result.{on_ok_weaker}
 use Rattle.rss_base.specs.LogRecords.{IsSpellable}
 use Rattle.rss_base.specs.Notes.{Noted}
@@ -10,6 +10,7 @@ use Rattle.rss_store.proofs.Growing.{Appends}
 use Rattle.rss_store.proofs.Pieces.{slots_still, mapped_still}
 use Rattle.rss_store.proofs.Nexts.{on_ok_both, fixes_now}
 use Rattle.rss_store.proofs.Spelled.{alter_still, can_alter}
+use Rattle.rss_store.proofs.Selected.{checkpoint_stays}
 use Rattle.rss_store.proofs.Ended.{grown_same, ended_can, ended_ready, ended_next, ended_moments, ended_shows}
 use Rattle.rss_store.proofs.store.DurableStore.commit.Goals as goal
 
@@ -65,3 +66,6 @@ returns-clause-shows g c =
 
 pub returns-clause-version : goal.returns-clause-version
 returns-clause-version g c = on_ok_weaker c.select.result (λ selected. ap (λ (r : Root). r.version) selected.root) c.select.ensures.selected
+
+pub returns-clause-checkpoint : goal.returns-clause-checkpoint
+returns-clause-checkpoint g c = checkpoint_stays _ _ _ c.select.result c.select.ensures.selected c.select.ensures.unselected refl
