@@ -7,15 +7,14 @@ use Rattle.rss_base.specs.Faults.{Rises}
 use Rattle.rss_base.specs.declared.fault.OpenFault.{OpenFault}
 use Rattle.rss_base.specs.declared.fault.OpenFault.TheVariants.{Device as DeviceFailed, NotAStore, Damaged, WrongSize, NoMemory}
 use Rattle.rss_base.specs.declared.place.Place.{Place}
-use Rattle.rss_base.specs.declared.root.Root.{Root}
 use Rattle.rss_base.proofs.Moments.{rises_since}
 use Rattle.rss_device.specs.StepDevice.{view_of}
 use Rattle.rss_device.specs.declared.step_device.StepDevice.{StepDevice}
 use Rattle.rss_model.specs.Tables.{no_tables}
 use Rattle.rss_stored.specs.Store.{OpensTo}
-use Rattle.rss_stored.proofs.Stores.{one_root, store_unbroken}
-use Rattle.rss_store.specs.Formatted.{AreSizes, IsFormatted, HoldsFormatted}
-use Rattle.rss_store.specs.Opening.{IsNoStore, IsRefused, IsSpent, IsUnopened}
+use Rattle.rss_stored.proofs.Stores.{store_unbroken}
+use Rattle.rss_store.specs.Formatted.{AreSizes}
+use Rattle.rss_store.specs.Opening.{IsRefused, IsUnopened}
 use Rattle.rss_c.specs.Stores.{FailsFor, HasFailed, IsUnmade}
 use Rattle.rss_c.specs.declared.open_store.Refused.{Refused}
 
@@ -28,7 +27,6 @@ lacks device = record {
     no_store = λ place is. absurd (cc (is));
     only_overfull = λ is. absurd (cc (is));
     overfull = λ is. inr (inr refl);
-    spent = λ stored is end. inr (inr refl);
   };
   right_size = λ is. cc (is);
 }
@@ -44,33 +42,23 @@ failed_since faults (Some back) (inr gone) = inr gone
 
 -- ---- over a store that was just made
 
-module _ {slots log_pages : ℕ} {pages : Pages} (formatted : IsFormatted slots log_pages pages) (opens : OpensTo pages (record { slots = slots; log_pages = log_pages }) no_tables) where
-  unspent : (place : Place) → IsSpent pages place → ⊥
-  unspent place spent =
-      let ends = ap (λ (root : Root). root.end) (one_root formatted.root_there spent.root_there).1 in
-      omega (arith, spent.end, ends)
-
-  sound : (place : Place) → IsNoStore pages ⊎ IsSpent pages place → ⊥
-  sound place (inl none) = none opens.stored opens.store
-  sound place (inr spent) = unspent place spent
-
+module _ {slots log_pages : ℕ} {pages : Pages} (opens : OpensTo pages (record { slots = slots; log_pages = log_pages }) no_tables) where
   -- nothing is found in it
   only_fails : (fault : OpenFault) → IsRefused pages fault → (fault ≡ WrongSize → ⊥) → (fault ≡ NoMemory) ⊎ (fault ≡ DeviceFailed)
   only_fails DeviceFailed refused right = inr refl
   only_fails NoMemory refused right = inl refl
   only_fails WrongSize refused right = absurd (right refl)
   only_fails (NotAStore place) refused right = absurd (store_unbroken opens place (refused.broken place refl))
-  only_fails (Damaged place) refused right = absurd (sound place (refused.no_store place refl))
+  only_fails (Damaged place) refused right = absurd (refused.no_store place refl opens.stored opens.store)
 
 -- it was made, and isn't opened
 pub unmade_on : {T : Type 0} (slots log_pages : ℕ) (device : StepDevice) → AreSizes slots log_pages
-    → HoldsFormatted slots log_pages (view_of device).disk
     → Told (view_of device).disk (λ pages. OpensTo pages (record { slots = slots; log_pages = log_pages }) no_tables)
     → (result : Result T Refused) → IfErr result (λ why. IsUnopened (view_of device) why.fault) → IfErr result (FailsFor device)
     → IfErr result (IsUnmade slots log_pages)
-unmade_on slots log_pages device sizes made opens (Ok store) unopened cause = tt
-unmade_on slots log_pages device sizes made opens (Err why) unopened cause = record {
+unmade_on slots log_pages device sizes opens (Ok store) unopened cause = tt
+unmade_on slots log_pages device sizes opens (Err why) unopened cause = record {
   wrong = λ none. absurd (none sizes);
-  right = λ _. only_fails (made.formatted _ refl) (opens _ refl) why.fault (unopened.refused _ refl) unopened.right_size;
+  right = λ _. only_fails (opens _ refl) why.fault (unopened.refused _ refl) unopened.right_size;
   cause = λ is. failed_since _ why.device (cause is);
 }

@@ -1,5 +1,5 @@
 -- How the calls of a store that is open end.
-use Rattle.std.specs.Prelude.{◌≡◌, ◌⊎◌, ◌+◌, ◌-◌, ◌^◌, ◌<◌, ◌≤◌, ◌/◌, ◌%◌, min, ℕ, List, [], length, Option, Some, None, Result, Ok, Err, true, false}
+use Rattle.std.specs.Prelude.{◌≡◌, ◌⊎◌, ◌+◌, ◌-◌, ◌^◌, ◌<◌, ◌≤◌, ◌/◌, ◌%◌, ℕ, List, [], length, Option, Some, None, Result, Ok, Err, true, false}
 use Rattle.std.specs.Simd.{first_chunks}
 use Rattle.rss_base.specs.DiskRule.{Pages, Told, page}
 use Rattle.rss_base.specs.Faults.{Rises}
@@ -16,19 +16,19 @@ use Rattle.rss_device.specs.StepDevice.{view_of, steps_of, gone_of, IsFresh}
 use Rattle.rss_device.specs.Steps.{IsStep}
 use Rattle.rss_device.specs.declared.step.Step.{Step}
 use Rattle.rss_device.specs.declared.step_device.StepDevice.{StepDevice}
-use Rattle.rss_log.specs.Logs.{free_of}
 use Rattle.rss_stored.specs.Calls.{calls_most}
+use Rattle.rss_model.specs.Machine.{State}
+use Rattle.rss_model.specs.Meter.{room_number, log_room}
 use Rattle.rss_model.specs.Script.{IsNameWord}
 use Rattle.rss_model.specs.Tables.{no_tables}
 use Rattle.rss_stored.specs.Store.{OpensTo}
-use Rattle.rss_session.specs.Sessions.{counts as counts_of}
-use Rattle.rss_session.specs.Weighing.{room_of}
 use Rattle.rss_store.specs.Formatted.{AreSizes, HoldsFormatted}
 use Rattle.rss_store.specs.Opening.{IsRefused, HasFrames}
 use Rattle.rss_rsi.specs.Opening.{OpensOver}
 use Rattle.rss_rsi.specs.Parts.{pages_below, session_of, view}
 use Rattle.rss_rsi.specs.Scanning.{IsOfLevels}
 use Rattle.rss_top.specs.Lines.{View, seen_with, RunsLine}
+use Rattle.rss_top.specs.Tellings.{told_by, plainly}
 use Rattle.rss_top.specs.Says.{Says}
 use Rattle.rss_top.specs.declared.status.Status.{Status}
 use Rattle.rss_top.specs.declared.status.Status.TheVariants.{DeviceFault, TooLong}
@@ -115,7 +115,7 @@ abbrev pub HasSteps : OpenStore → Type 0
 HasSteps store = gone_of (device_in store) ≤ store.next
 
 -- what there is to see of a store, with a text
-abbrev pub seen_in : OpenStore → Stream → View
+abbrev pub seen_in : OpenStore → Stream → View (told_by plainly)
 seen_in store text = seen_with store.names.variables (view store.engine) text
 
 -- A line was run; or it failed, and the program's line about that was written; or a step is gone that wasn't taken, which is told as a fault of the device; or the store was asked for as many calls as it may be; or an earlier line has failed.
@@ -168,10 +168,10 @@ pub record HasCounts (store : OpenStore) (counts : RssCounts) : Type 0 where
   pub pages : counts.pages ≡ (view_of (device_in store)).size
   pub calls : counts.calls ≡ (view store.engine).calls
   pub slots : counts.slots ≡ (view store.engine).slots
-  pub room : counts.room ≡ min (room_of (session_of store.engine).heap
-      (session_of store.engine).surviving (session_of store.engine).opened.since
-      (counts_of (session_of store.engine)).images) (2 ^ 64 - 1)
-  pub log_free : counts.log_free ≡ free_of (session_of store.engine).store.log
+  pub room : (state : State) → (view store.engine).shows state
+      → counts.room ≡ room_number state.base.definitions state.meter
+  pub log_free : (view store.engine).is_up → (state : State) → (view store.engine).shows state
+      → counts.log_free ≡ log_room state.size.log_pages state.meter
 
 -- an image of the name that is written so has this many levels; or none is defined, and they are 0
 pub data IsLevelsOf (store : OpenStore) (word : List ℕ) (levels : ℕ) : Type 0 where

@@ -11,7 +11,7 @@ use Rattle.rss_base.specs.Streams.{Stream, IsAllOf}
 use Rattle.rss_base.proofs.Flows.{gives_none, gives_then}
 use Rattle.rss_base.proofs.Moments.{rises_since}
 use Rattle.rss_model.specs.Script.{IsUnbroken}
-use Rattle.rss_lines.specs.Lines.{LinesView, script_limit, MayRead, Seeks, AdvancesTo, Advances}
+use Rattle.rss_lines.specs.Lines.{LinesView, line_end, piece_most, script_limit, MayRead, Seeks, AdvancesTo, Advances}
 use Rattle.rss_lines.specs.Lines.Finds.{ended, last}
 use Rattle.rss_lines.specs.Pieces.{behind, is_end, FindsEnd, Fills}
 use Rattle.rss_lines.specs.declared.unread.Unread.{Unread}
@@ -25,6 +25,7 @@ pub record Seeking (old now : LinesView) (before source : Stream) : Type 0 where
   pub line : List ℕ
   pub seeks : Seeks old now before source more line
   pub parts : old.rest ++ more ≡ line ++ now.rest
+  pub ahead : length now.rest ≤ piece_most
   pub reads : (source ≡ before) ⊎ MayRead old
   pub going : now.over ≡ false
   pub begun : old.over ≡ false
@@ -33,8 +34,8 @@ pub record Seeking (old now : LinesView) (before source : Stream) : Type 0 where
 not_over : {over : Bool} {P : Type 0} → over ≡ false → over ≡ true → P
 not_over is there = absurd (cc)
 
-pub seeks_none : (old : LinesView) (source : Stream) → old.over ≡ false → 1 ≤ old.keep → old.taken ≤ script_limit → Seeking old (record old { line = [] }) source source
-seeks_none old source going some most = record {
+pub seeks_none : (old : LinesView) (source : Stream) → old.over ≡ false → 1 ≤ old.keep → old.taken ≤ script_limit → length old.rest ≤ piece_most → Seeking old (record old { line = [] }) source source
+seeks_none old source going some most ahead = record {
   more = [];
   line = [];
   seeks = record {
@@ -47,6 +48,7 @@ seeks_none old source going some most = record {
     same_keep = refl;
   };
   parts = append-nil old.rest;
+  ahead = ahead;
   reads = inl refl;
   going = going;
   begun = going;
@@ -68,6 +70,7 @@ was_over old source line empty over none short = record {
     same_keep = refl;
   };
   outcome = (append-nil old.rest ∙ none, refl, over);
+  ahead = omega (arith, ap length none);
   reads = inl refl;
   over = λ is. record { all = inl over; none = none; short = short };
   stays_over = λ is. refl;
@@ -123,11 +126,12 @@ module _ {old mid : LinesView} {before source : Stream} (seeking : Seeking old m
     still = ap (λ (v : LinesView). v.over) finds.is ∙ seeking.going
 
   pub line_found : {now : LinesView} → FindsEnd mid now true → Advances old now before source (Ok true)
-  line_found finds = record {
+  line_found {now = now} finds = record {
     more = seeking.more;
     line = front finds;
     seeks = finds_seeks finds;
     outcome = ended (finds_parts finds) (still finds);
+    ahead = omega (arith, seeking.ahead, ap length finds.parts, length-append finds.bytes (line_end ∷ now.rest));
     reads = seeking.reads;
     over = not_over (still finds);
     stays_over = not_over seeking.begun;
@@ -140,6 +144,7 @@ module _ {old mid : LinesView} {before source : Stream} (seeking : Seeking old m
     line = seeking.line;
     seeks = seeking.seeks;
     outcome = seeking.parts;
+    ahead = seeking.ahead;
     reads = seeking.reads;
     over = not_over seeking.going;
     stays_over = not_over seeking.begun;
@@ -170,6 +175,9 @@ module _ {old mid : LinesView} {before source : Stream} (seeking : Seeking old m
       rest_is : new.rest ≡ fills.more
       rest_is = ap (λ (v : LinesView). v.rest) fills.is
 
+      fills_ahead : length new.rest ≤ piece_most
+      fills_ahead = omega (arith, fills.few, ap length rest_is)
+
       over_is : new.over ≡ is_end result
       over_is = ap (λ (v : LinesView). v.over) fills.is
 
@@ -183,6 +191,7 @@ module _ {old mid : LinesView} {before source : Stream} (seeking : Seeking old m
       line = front finds;
       seeks = fills_seeks fills;
       parts = fills_parts fills ∙ ap (λ (l : List ℕ). front finds ++ l) (sym (rest_is fills));
+      ahead = fills_ahead fills;
       reads = inr (may_read finds refl);
       going = over_is fills;
       begun = seeking.begun;
@@ -205,6 +214,7 @@ module _ {old mid : LinesView} {before source : Stream} (seeking : Seeking old m
       line = front finds;
       seeks = fills_seeks fills;
       outcome = fails_to why fills;
+      ahead = fills_ahead fills;
       reads = inr (may_read finds refl);
       over = not_over (over_is fills);
       stays_over = not_over seeking.begun;
@@ -220,6 +230,7 @@ module _ {old mid : LinesView} {before source : Stream} (seeking : Seeking old m
           line = front finds;
           seeks = fills_seeks fills;
           outcome = over_to new old.keep (front finds) empty seeking.some (is ∙ ap (λ (l : List ℕ). nat_eq (length l) 0) kept) (fills_whole fills none) (over_is fills);
+          ahead = fills_ahead fills;
           reads = inr (may_read finds refl);
           over = λ is. record { all = inr (subst (λ (l : List ℕ). IsAllOf before.bytes (seeking.more ++ l)) (sym none) (all_then seeking.more [] seeking.seeks.gives fills.outcome.1)); none = rest_is fills ∙ none; short = fills.outcome.2 };
           stays_over = not_over seeking.begun;

@@ -14,6 +14,10 @@ line_end = 10
 abbrev pub script_limit : ℕ
 script_limit = 2 ^ 30
 
+-- the source is asked for no more bytes than these at a time
+abbrev pub piece_most : ℕ
+piece_most = 65536
+
 -- What there is to see of the lines of a source.
 -- keep: so many bytes of a line are kept. taken: so many the source gave. line: what is kept of the
 -- line that was found last. rest: what the source gave behind that line. over: the source had no more.
@@ -74,6 +78,7 @@ pub record Advances (old new : LinesView) (before after : Stream) (result : Resu
   pub line : List ℕ
   pub seeks : Seeks old new before after more line
   pub outcome : AdvancesTo new (old.rest ++ more) line result
+  pub ahead : length new.rest ≤ piece_most
   pub reads : (after ≡ before) ⊎ MayRead old
   pub over : new.over ≡ true → IsOver old new before more
   pub stays_over : old.over ≡ true → result ≡ Ok false

@@ -3,7 +3,7 @@ use Rattle.std.specs.Prelude.{◌≡◌, ℕ, ◌+◌, ◌<◌, ◌≤◌, Bool,
 use Rattle.rss_base.specs.Faults.{Rises}
 use Rattle.rss_base.specs.Streams.{Stream, Gives, IsAllOf}
 use Rattle.rss_model.specs.Script.{IsUnbroken}
-use Rattle.rss_lines.specs.Lines.{LinesView, line_end, script_limit}
+use Rattle.rss_lines.specs.Lines.{LinesView, line_end, piece_most, script_limit}
 use Rattle.rss_lines.specs.declared.unread.Unread.{Unread}
 use Rattle.rss_lines.specs.declared.unread.Unread.TheVariants.{ReadFault, NoMemory, TooLong}
 
@@ -49,4 +49,5 @@ pub record Fills (old new : LinesView) (before after : Stream) (result : Result 
   pub later : before.faults ≤ after.faults
   pub is : new ≡ record old { taken = old.taken + length more; rest = more; over = is_end result }
   pub most : new.taken ≤ script_limit
+  pub few : length more ≤ piece_most
   pub outcome : FillsTo new before after more result

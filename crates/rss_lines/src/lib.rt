@@ -5,6 +5,6 @@ mod lines;
 mod piece;
 mod unread;
 
-pub use lines::Lines;
+pub use lines::{Lines, SCRIPT_BYTES};
 pub use piece::end_of_line;
 pub use unread::Unread;

@@ -13,7 +13,7 @@ use std::marker::Model;
 const PIECE_BYTES: usize = 65_536;
 
 /// A script has fewer bytes than this.
-const SCRIPT_BYTES: usize = 1 << 30;
+pub const SCRIPT_BYTES: usize = 1 << 30;
 
 /// The lines of a source, one after another, from a source of fewer than 2^30 bytes. It is read in
 /// pieces of at most 65,536 bytes.

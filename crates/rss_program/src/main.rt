@@ -34,7 +34,7 @@ fn main(rt: HostRuntime) -> ExitCode {
     };
     if status == Status::Words {
         let _ = eprintln!(rt;
-            "usage: rss format FILE N G | run FILE | gen NUMBER COUNT | trial FILE NUMBER COUNT"
+            "usage: rss format FILE N G | run FILE | gen NUMBER COUNT | trial FILE NUMBER COUNT | talk FILE"
         );
     }
     exit_code(status)

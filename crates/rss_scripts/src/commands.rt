@@ -60,7 +60,12 @@ fn line_length(bytes: &[u8]) -> usize
 
 /// Runs the lines of a script over a store that is open, up to the first that stops the run. A script
 /// is too long that has more lines than the store may be asked for calls.
-fn run_lines<E: Engine>(store: &mut E, alloc: Global, script: &[u8], sink: &mut MemSink) -> Status
+pub fn run_lines<E: Engine>(
+    store: &mut E,
+    alloc: Global,
+    script: &[u8],
+    sink: &mut MemSink,
+) -> Status
     requires { (E.view store.old).is_up }
 {
     let mut names = Names::new(alloc);

@@ -3,4 +3,6 @@
 
 mod commands;
 
-pub use commands::{format_device, run_in_frames, run_script, run_words, without_moments};
+pub use commands::{
+    format_device, run_in_frames, run_lines, run_script, run_words, without_moments,
+};

@@ -13,11 +13,14 @@ use Rattle.rss_store.specs.Formatted.{AreSizes}
 use Rattle.rss_store.proofs.Unopened.{handed_back, unopened_memory}
 use Rattle.rss_words.specs.Words.{AreFormat, AskFor, IsCommand}
 use Rattle.rss_words.specs.declared.command.Command.{Command}
-use Rattle.rss_words.specs.declared.command.Command.TheVariants.{Run, Format, Generate, Trial}
+use Rattle.rss_words.specs.declared.command.Command.TheVariants.{OnFile, Format, Generate, Trial}
+use Rattle.rss_words.specs.declared.task.Task.TheVariants.{Run, Talk}
 use Rattle.rss_top.specs.Lines.{on}
 use Rattle.rss_top.specs.Generated.{WritesLines, IsUntouched}
+use Rattle.rss_top.specs.Manners.{Manner}
+use Rattle.rss_top.specs.Tellings.{told_by, plainly, talking}
 use Rattle.rss_top.specs.Programs.{IsScriptRun, IsUnread, IsProgram}
-use Rattle.rss_top.specs.Programs.IsProgram.{runs, formats, generates, tries}
+use Rattle.rss_top.specs.Programs.IsProgram.{runs, talks, formats, generates, tries}
 use Rattle.rss_top.specs.declared.status.Status.{Status}
 use Rattle.rss_top.specs.declared.status.Status.TheVariants.{Ok, Words, ReadFault, WriteFault, DeviceFault, NotAStore, Damaged, NoMemory, TooLong, WrongSize}
 use Rattle.rss_top.proofs.Openings.{lacked_opening}
@@ -61,15 +64,16 @@ size_fits {log_pages = log_pages} are sizes n g other =
 
 module _ (words : List (List ℕ)) (device : DeviceView) (sink source : Stream) where
   -- no store was opened, and no script read
-  unopened : (sink source : Stream) → IsScriptRun NoMemory (on device sink) (on device sink) source source
-  unopened sink source = lacked_opening (handed_back (unopened_memory device) (λ is. absurd (cc)) (reads_none device)) sink sink source refl
+  unopened : (manner : Manner) (sink source : Stream) → IsScriptRun manner NoMemory (on device sink) (on device sink) source source
+  unopened manner sink source = lacked_opening manner (handed_back (unopened_memory device) (λ is. absurd (cc)) (reads_none device)) sink sink source refl
 
   -- the device, the sink and the source are as they were
   abbrev ends_with : Status → Type 0
   ends_with status = IsProgram words status (on device sink) (on device sink) source source
 
   lacked : (command : Command) → AskFor words command → IsUnread words NoMemory → ends_with NoMemory
-  lacked Run are unread = runs are (unopened sink source)
+  lacked (OnFile Run) are unread = runs are (unopened (told_by plainly) sink source)
+  lacked (OnFile Talk) are unread = talks are (unopened (told_by talking) sink source)
   lacked (Format slots log_pages) are unread = formats are (record {
     ends = refl;
     told = ((λ told. told), (λ told. told));
@@ -95,9 +99,9 @@ module _ (words : List (List ℕ)) (device : DeviceView) (sink source : Stream) 
         replies = [];
         kept = refl;
         ran = NoMemory;
-        runs = unopened replies script;
+        runs = unopened (told_by plainly) replies script;
         tells = record { same_status = refl; silent = refl };
-        complete = λ size tables pages told opens unspent sink device. inr refl;
+        complete = λ size tables pages told opens sink device. inr refl;
       }) refl
 
   pub unread_ends : (status : Status) → IsCommand words → IsUnread words status → ends_with status

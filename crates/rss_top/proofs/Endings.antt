@@ -3,7 +3,7 @@ use Rattle.std.proofs.Common.{◌≡◌, inl, inr, ⊎_elim, ℕ, ◌<◌, ◌�
 use Rattle.rss_base.specs.DiskRule.{Disk}
 use Rattle.rss_base.specs.Streams.{Stream, Gives, IsAllOf}
 use Rattle.rss_lines.specs.Lines.{script_limit}
-use Rattle.rss_model.specs.Plays.{Scene}
+use Rattle.rss_top.specs.Manners.{Manner, Stand}
 use Rattle.rss_top.specs.Run.{World, Point, Beginning, Story, Stopped, Whole, IsTaken, Ended, IsStoppedBy, IsHalt, IsStop, IsReadThrough}
 use Rattle.rss_base.specs.declared.place.Place.{Place}
 use Rattle.rss_top.specs.Lines.{IsLineEnd, IsScriptEnd}
@@ -84,7 +84,7 @@ line_is_cut old new TooLong cause = absurd cause
 line_is_cut old new WrongSize cause = absurd cause
 
 -- a run that stopped within a line has such a status
-is_stop : (disk : Disk) (from : Point) (line said : List ℕ) (status : Status) → IsStoppedBy status disk from line said → IsStop status
+is_stop : {manner : Manner} (disk : Disk) (from : Point manner) (line said : List ℕ) (status : Status) → IsStoppedBy status disk from line said → IsStop status
 is_stop disk from line said WriteFault stopped = inl refl
 is_stop disk from line said DeviceFault stopped = inr (inl refl)
 is_stop disk from line said NoMemory stopped = inr (inr refl)
@@ -115,12 +115,12 @@ script_end old new source_old source_new WrongSize cause = cause
 abbrev pub taken_cut : {status : Status} {left_old left_new : Option (List ℕ)} (given : List ℕ) → Gives left_old given left_new → length given ≤ script_limit → IsCut status → IsTaken status left_old left_new
 taken_cut given gives most is = record { given = given; gives = gives; most = most; short = λ through. absurd (is.within through); too_long = λ e. absurd (is.short e); all = λ ok. absurd (is.within (inl ok)) }
 
-module _ {begin : Beginning} {now : World} {left : Option (List ℕ)} where
-  pub ended_halted : {scene : Scene} {front : List ℕ} (status : Status) → IsHalt status → (taken : IsTaken status begin.left left) → Story begin now scene taken.given front → Ended status begin now left
-  ended_halted {scene = scene} {front = front} status is taken story = record {
+module _ {manner : Manner} {begin : Beginning manner} {now : World} {left : Option (List ℕ)} where
+  pub ended_halted : {stand : Stand manner.Memory} {front : List ℕ} (status : Status) → IsHalt status → (taken : IsTaken status begin.left left) → Story begin now stand taken.given front → Ended status begin now left
+  ended_halted {stand = stand} {front = front} status is taken story = record {
     taken = taken;
     whole = λ ok. absurd (not_halt is ok);
-    halted = λ halt. record { scene = scene; left = front; story = story };
+    halted = λ halt. record { stand = stand; left = front; story = story };
     stopped = λ stop. absurd (not_both is stop);
     undamaged = λ place damaged. halt_undamaged is damaged;
   }
@@ -146,7 +146,7 @@ module _ {begin : Beginning} {now : World} {left : Option (List ℕ)} where
   }
 
 -- a source with fewer bytes than a script may have isn't too long
-pub not_too_long : {status : Status} {begin : Beginning} {now : World} {left : Option (List ℕ)} (all : List ℕ) → begin.left ≡ Some all → length all < script_limit → Ended status begin now left → status ≡ TooLong → ⊥
+pub not_too_long : {manner : Manner} {status : Status} {begin : Beginning manner} {now : World} {left : Option (List ℕ)} (all : List ℕ) → begin.left ≡ Some all → length all < script_limit → Ended status begin now left → status ≡ TooLong → ⊥
 not_too_long all told short ended is =
     let moved = ended.taken.gives.moves all told in
     absurd (omega (arith, short, ended.taken.too_long is, ap (λ (l : List ℕ). length l) moved.2, length-append ended.taken.given moved.0))

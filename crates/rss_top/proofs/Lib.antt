@@ -1,9 +1,10 @@
 pub mod Plays
 pub mod Ways
-pub mod Asked
-pub mod Unasked
+pub mod Kept
+pub mod Echoed
+pub mod HeardLines
+pub mod ToldLines
 pub mod Stories
-pub mod Fronts
 pub mod Pieces
 pub mod Endings
 pub mod Refusals

@@ -1,5 +1,5 @@
 -- The opening of a device for a run, and its refusal.
-use Rattle.std.proofs.Common.{◌≡◌, ◌⊎◌, inl, inr, ⊎_elim, ℕ, List, [], Option, Some, refl, sym, ◌∙◌, ap, subst, arith}
+use Rattle.std.proofs.Common.{◌≡◌, ◌⊎◌, inl, inr, ℕ, List, [], Option, Some, refl, sym, ◌∙◌, ap, subst, arith}
 use Rattle.rss_base.specs.DiskRule.{Disk, Pages, Told, IsTold, Leaves, Passes, Continues}
 use Rattle.rss_base.specs.Devices.{DeviceView, OnlyReads}
 use Rattle.rss_base.proofs.Flows.{gives_none, some_none, some_then}
@@ -13,7 +13,6 @@ use Rattle.rss_model.specs.Tables.{Tables}
 use Rattle.rss_model.specs.Machine.{StoreSize, State, IsAtRest}
 use Rattle.rss_model.specs.ReplyText.{not_a_store_line, damaged_line}
 use Rattle.rss_stored.specs.Store.{Stored, IsStore, OpensTo, OpensIn, IsBrokenAt, IsOverfull, IsNoStore, overflow_pages, size_of}
-use Rattle.rss_model.specs.Plays.{plain}
 use Rattle.rss_model.specs.Runs.{Turn, Run}
 use Rattle.rss_model.specs.Serial.{serial, RunsSerially}
 use Rattle.rss_model.proofs.Serially.{is_serial}
@@ -23,9 +22,10 @@ use Rattle.rss_rsi.specs.Opening.{BeginsIn, IsOpened}
 use Rattle.rss_stored.proofs.Stores.{store_unbroken}
 use Rattle.rss_base.specs.Streams.{Stream}
 use Rattle.rss_top.specs.Run.{World, Window, IsTaken, Ended, EndedSerially, IsFailedOpening, MayLeave, BeginsAt, ImagesAt, IsRun}
-use Rattle.rss_top.specs.Run.IsRun.{unopened, refused, opened}
+use Rattle.rss_top.specs.Run.IsRun.{unopened, opened}
 use Rattle.rss_stored.specs.Calls.{EngineView}
-use Rattle.rss_top.specs.Lines.{View, IsScriptEnd, RunsScript, beginning, on, world, seen}
+use Rattle.rss_top.specs.Manners.{Manner, IsSound, first_stand}
+use Rattle.rss_top.specs.Lines.{View, DriverView, IsScriptEnd, RunsScript, beginning, on, seen}
 use Rattle.rss_top.specs.Says.{Says, TellsDamage}
 use Rattle.rss_top.specs.Says.IsSaid.{said, cut, unsaid}
 use Rattle.rss_top.specs.Programs.{IsLeftAlone, IsRefusal, IsRefused, IsRunFrom, IsTurnedAway, IsRunEnd, IsFaultless, IsScriptRun}
@@ -34,7 +34,7 @@ use Rattle.rss_top.specs.declared.status.Status.{Status}
 use Rattle.rss_top.specs.declared.status.Status.TheVariants.{Ok, Words, ReadFault, WriteFault, DeviceFault, NotAStore, Damaged, NoMemory, TooLong, WrongSize}
 use Rattle.rss_base.proofs.Moments.{rises_since, widened}
 use Rattle.rss_top.proofs.Endings.{IsCut, stop_is_cut, damaged_is_cut, layout_is_cut, taken_cut, not_too_long}
-use Rattle.rss_top.proofs.Plays.{played_is_play, play_is_run}
+use Rattle.rss_top.proofs.Plays.{played_is_run}
 use Rattle.rss_top.proofs.Refusals.{said_is_cut, says_some, tells_no_damage, tells_damage}
 
 -- ---- the state in which a run begins
@@ -47,8 +47,8 @@ as_state P {tables = tables} state same_size committed is = subst (λ (t : Table
 as_opened : (P : StoreSize → Tables → Type 0) {pages : Pages} {size : StoreSize} {tables : Tables} (opens : OpensTo pages size tables) → P (size_of opens.stored.root) opens.stored.tables → P size tables
 as_opened P {size = size} opens is = subst (λ (t : Tables). P size t) (sym opens.holds) (subst (λ (s : StoreSize). P s opens.stored.tables) (sym opens.same_size) is)
 
--- what a stop within the opening leaves, by the first scene
-leaves_at : (before : Disk) (stored : Stored) (first : State) → first.size ≡ size_of stored.root → first.base ≡ stored.tables → (image : Pages) → StoreLeaves before stored image → MayLeave before (plain first) image
+-- what a stop within the opening leaves, by the first state
+leaves_at : (before : Disk) (stored : Stored) (first : State) → first.size ≡ size_of stored.root → first.base ≡ stored.tables → (image : Pages) → StoreLeaves before stored image → MayLeave before first image
 leaves_at before stored first same_size committed image (inl left) = inl left
 leaves_at before stored first same_size committed image (inr holds) = inr (as_state (OpensTo image) first same_size committed holds)
 
@@ -58,9 +58,9 @@ leaves_at before stored first same_size committed image (inr holds) = inr (as_st
 opening_window : {before opened after : Disk} {P : Pages → Type 0} → Passes before opened P → Continues opened after → Window after before.moment opened.moment P
 opening_window opening history = record { later = opening.later; each = λ t image lt le left. opening.each t image lt le ((history.past t image le).0 left) }
 
-module _ {device below : DeviceView} {engine : EngineView} {sink : Stream} {ended : View} {source_old source_new : Stream} {status : Status}
+module _ {manner : Manner} {device below : DeviceView} {engine : EngineView} {sink : Stream} {ended : View manner} {source_old source_new : Stream} {status : Status} (sound : IsSound manner)
     (opening : IsOpened device engine) (passes : PassesOpening device below) (leaves : (image : Pages) → Leaves below.disk image → Leaves engine.disk image)
-    (ran : RunsScript (record { world = on below sink; shows = engine.shows; names = []; is_up = engine.is_up; calls = engine.calls }) ended source_old source_new status) (tells : TellsDamage status sink ended.world.sink) where
+    (ran : RunsScript (record { world = on below sink; shows = engine.shows; memory = manner.start; is_up = engine.is_up; calls = engine.calls }) ended source_old source_new status) (tells : TellsDamage status sink ended.world.sink) where
   still_told : IsTold device.disk → IsTold below.disk
   still_told told = passes.told told
 
@@ -80,7 +80,7 @@ module _ {device below : DeviceView} {engine : EngineView} {sink : Stream} {ende
     abbrev found : BeginsIn stored engine
     found = opening.begins pages told stored store
 
-    end_at : Ended status (beginning (plain found.state) (on below sink) source_old) ended.world source_new.bytes
+    end_at : Ended status (beginning manner (first_stand manner found.state) (on below sink) source_old) ended.world source_new.bytes
     end_at = ran.ended (still_told (record { pages = pages; is = told })) found.state found.shows
 
     serially : (made : List Turn) (last : State) → Run found.state made last → RunsSerially found.state (serial made) last.base
@@ -88,15 +88,15 @@ module _ {device below : DeviceView} {engine : EngineView} {sink : Stream} {ende
         let stands : OpensTo pages (size_of stored.root) stored.tables = record { stored = stored; store = store; same_size = refl; holds = refl } in
         is_serial (size_of stored.root) stored.tables found.state last made found.rest.idle (stores_fit pages (size_of stored.root) stored.tables stands) run
 
-    ended_serially : EndedSerially status (beginning (plain found.state) (on below sink) source_old) ended.world source_new.bytes
+    ended_serially : EndedSerially status (beginning manner (first_stand manner found.state) (on below sink) source_old) ended.world source_new.bytes
     ended_serially = record {
       ended = end_at;
       whole = λ is. serially _ _ (end_at.whole is).run;
-      halted = λ is. serially _ _ (play_is_run (played_is_play (end_at.halted is).story.played));
-      stopped = λ is. serially _ _ (play_is_run (played_is_play (end_at.stopped is).played));
+      halted = λ is. serially _ _ (played_is_run sound (end_at.halted is).story.played);
+      stopped = λ is. serially _ _ (played_is_run sound (end_at.stopped is).played);
     }
 
-    begins_at : ImagesAt below.disk.moment ended.world.disk (BeginsAt (plain found.state))
+    begins_at : ImagesAt below.disk.moment ended.world.disk (BeginsAt found.state)
     begins_at image left =
         let history = ran.passes.history (still_told (record { pages = pages; is = told })) in
         let opens = found.opens image (leaves image ((history.past below.disk.moment image (omega arith)).0 left)) in
@@ -106,7 +106,7 @@ module _ {device below : DeviceView} {engine : EngineView} {sink : Stream} {ende
           begins = as_state (λ size tables. OpensIn image size tables found.state) found.state idle.same_size idle.committed opens.begins;
         }
 
-    run_at : IsRun status (plain found.state) (on device sink) ended.world source_old.bytes source_new.bytes
+    run_at : IsRun manner status found.state (on device sink) ended.world source_old.bytes source_new.bytes
     run_at =
         let known : IsTold device.disk = record { pages = pages; is = told } in
         let idle = found.rest.idle in
@@ -131,7 +131,7 @@ module _ {device below : DeviceView} {engine : EngineView} {sink : Stream} {ende
   run_end (NotAStore place) none cause = absurd cause
   run_end WrongSize none cause = absurd cause
 
-  pub script_ran : IsScriptRun status (on device sink) ended.world source_old source_new
+  pub script_ran : IsScriptRun manner status (on device sink) ended.world source_old source_new
   script_ran = record {
     run = λ size tables pages told opens.
         let first = (found told opens.store).state in
@@ -140,12 +140,13 @@ module _ {device below : DeviceView} {engine : EngineView} {sink : Stream} {ende
           begins = as_opened (λ s t. IsAtRest s t first) opens (found told opens.store).rest;
           run = run_at told opens.store;
         };
-    complete = λ size tables pages told opens unspent script source short faultless.
+    complete = λ size tables pages told opens script source short faultless.
         let end = end_at told opens.store in
         completes faultless status (not_too_long script source short end) end.undamaged ran.cause;
     broken = λ place pages told broken. absurd (opening.unbroken place pages told broken);
     overfull = λ pages told over. absurd (opening.not_overfull pages told over);
     no_tables = λ pages told none. absurd (none (opening.tables pages told));
+    spent = λ pages told is. absurd (opening.not_spent pages told is);
     cause = run_end status none_damaged ran.cause;
     taken = ran.taken;
     tells = tells;
@@ -211,14 +212,14 @@ no_place is (inl named) = cc
 no_place is (inr (inl device)) = cc
 no_place is (inr (inr memory)) = cc
 
-module _ {device back : DeviceView} {fault : OpenFault} (handed : IsHandedBack device back fault) where
+module _ (manner : Manner) {device back : DeviceView} {fault : OpenFault} (handed : IsHandedBack device back fault) where
   -- what a stop leaves of a store, by a state in which it would be opened
-  passes_store : {pages : Pages} {size : StoreSize} {tables : Tables} → device.disk.contents ≡ Some pages → (opens : OpensTo pages size tables) → Passes device.disk back.disk (MayLeave device.disk (plain (opening_state opens)))
+  passes_store : {pages : Pages} {size : StoreSize} {tables : Tables} → device.disk.contents ≡ Some pages → (opens : OpensTo pages size tables) → Passes device.disk back.disk (MayLeave device.disk (opening_state opens))
   passes_store {pages = pages} told opens = widened (handed.passes.moments pages told opens.stored opens.store) (leaves_at device.disk opens.stored (opening_state opens) opens.same_size opens.holds)
 
-  -- a store is refused for its log alone
-  store_spent : {pages : Pages} {stored : Stored} {place : Place} → fault ≡ NoStore place → device.disk.contents ≡ Some pages → IsStore pages stored → IsSpent pages place
-  store_spent {pages = pages} {stored = stored} {place = place} is told store = ⊎_elim (λ none. absurd (none stored store)) (λ spent. spent) ((handed.refused.refused pages told).no_store place is)
+  -- what is damaged opens to no tables
+  none_opens : {place : Place} → fault ≡ NoStore place → Told device.disk IsNoStore
+  none_opens {place = place} is pages told size tables opens = (handed.refused.refused pages told).no_store place is opens.stored opens.store
 
   module _ (sink_old sink_new source : Stream) where
     abbrev before : World
@@ -236,37 +237,42 @@ module _ {device back : DeviceView} {fault : OpenFault} (handed : IsHandedBack d
     tables_alone : Told device.disk (λ pages. (HasTables pages → ⊥) → IsLeftAlone before after source source)
     tables_alone pages told none = left_alone (handed.tables pages told none)
 
+    spent_alone : Told device.disk (λ pages. IsSpent pages → IsLeftAlone before after source source)
+    spent_alone pages told spent = left_alone (handed.spent pages told spent)
+
     -- the opening failed
-    unopened_from : {status : Status} {pages : Pages} {size : StoreSize} {tables : Tables} → device.disk.contents ≡ Some pages → OpensTo pages size tables → IsFailedOpening status → sink_new.bytes ≡ sink_old.bytes → IsRunFrom (IsAtRest size tables) status before after source.bytes source.bytes
+    unopened_from : {status : Status} {pages : Pages} {size : StoreSize} {tables : Tables} → device.disk.contents ≡ Some pages → OpensTo pages size tables → IsFailedOpening status → sink_new.bytes ≡ sink_old.bytes → IsRunFrom manner (IsAtRest size tables) status before after source.bytes source.bytes
     unopened_from told opens failed silent = record {
       first = opening_state opens;
       begins = opening_rest opens;
       run = unopened failed (passes_store told opens) refl silent;
     }
 
-    pub failed_opening : fault ≡ DeviceFailed → sink_new ≡ sink_old → IsScriptRun DeviceFault before after source source
+    pub failed_opening : fault ≡ DeviceFailed → sink_new ≡ sink_old → IsScriptRun manner DeviceFault before after source source
     failed_opening is same =
         let silent = ap (λ (s : Stream). s.bytes) same in
         record {
           run = λ size tables pages told opens. unopened_from told opens (inl refl) silent;
-          complete = λ size tables pages told opens unspent script given short faultless. absurd (faultless.device (handed.cause is));
+          complete = λ size tables pages told opens script given short faultless. absurd (faultless.device (handed.cause is));
           broken = λ place pages told broken. record { alone = broken_alone place pages told broken; refusal = fails refl silent };
           overfull = λ pages told over. record { alone = overfull_alone pages told over; refusal = fails refl silent };
           no_tables = λ pages told none. record { place = Room; refused = inl (record { alone = tables_alone pages told none; refusal = fails refl silent }) };
+          spent = spent_alone;
           cause = handed.cause is;
           taken = taken_none source.bytes (stop_is_cut (inr (inl refl)));
           tells = record { last = λ place is. absurd (cc) };
         }
 
-    pub lacked_opening : sink_new ≡ sink_old → IsScriptRun NoMemory before after source source
+    pub lacked_opening : sink_new ≡ sink_old → IsScriptRun manner NoMemory before after source source
     lacked_opening same =
         let silent : (meant : Status) → IsRefusal meant NoMemory before after = λ meant. says (record { later = omega (arith, ap (λ (s : Stream). s.faults) same); how = unsaid refl same }) in
         record {
           run = λ size tables pages told opens. unopened_from told opens (inr refl) (ap (λ (s : Stream). s.bytes) same);
-          complete = λ size tables pages told opens unspent script given short faultless. inr refl;
+          complete = λ size tables pages told opens script given short faultless. inr refl;
           broken = λ place pages told broken. record { alone = broken_alone place pages told broken; refusal = silent (NotAStore place) };
           overfull = λ pages told over. record { alone = overfull_alone pages told over; refusal = silent (Damaged Room) };
           no_tables = λ pages told none. record { place = Room; refused = inl (record { alone = tables_alone pages told none; refusal = silent (NotAStore Room) }) };
+          spent = spent_alone;
           cause = tt;
           taken = taken_none source.bytes (stop_is_cut (inr (inr refl)));
           tells = record { last = λ place is. absurd (cc) };
@@ -287,28 +293,28 @@ module _ {device back : DeviceView} {fault : OpenFault} (handed : IsHandedBack d
         | unsaid same silent ↦ subst (λ (s : Status). IsRunEnd before after source source s) (sym same) tt
       ]
 
-      pub layout_refused : IsScriptRun status before after source source
+      pub layout_refused : IsScriptRun manner status before after source source
       layout_refused = record {
         run = λ size tables pages told opens. absurd (store_unbroken opens place (broken_there pages told));
         complete = λ size tables pages told opens. absurd (store_unbroken opens place (broken_there pages told));
         broken = λ other pages told there. subst (λ (p : Place). IsRefused (NotAStore p) status before after source source) (named_place is ((handed.refused.refused pages told).names other there)) no_layout;
         overfull = λ pages told over. absurd (no_room is ((handed.refused.refused pages told).overfull over));
         no_tables = λ pages told none. record { place = place; refused = inl no_layout };
+        spent = spent_alone;
         cause = cause_of;
         taken = taken_none source.bytes (said_is_cut (layout_is_cut place) line);
         tells = tells_no_damage line;
       }
 
-    -- the pages are no store, or the positions of their log are used up
+    -- the pages are no store
     module _ {place : Place} {status : Status} (is : fault ≡ NoStore place) (line : Says (Damaged place) (damaged_line place) status sink_old sink_new) where
       turned_away : Told device.disk (λ pages. IsTurnedAway place pages before after source source)
       turned_away pages told =
           let known = (handed.refused.refused pages told) in
           record {
-            why = ⊎_elim (λ none. inl (λ size tables opens. none opens.stored opens.store)) (λ spent. inr spent) (known.no_store place is);
+            why = none_opens is pages told;
             over = λ room. known.only_overfull (is ∙ ap NoStore room);
             unread = refl;
-            spent = λ spent. left_alone (handed.spent pages told place spent);
             alone = λ off. left_alone (handed.reads (subst IsEarlyRefusal (sym is) (comes_early place off)) (record { pages = pages; is = told }));
             keeps = λ position at. handed.keeps position (is ∙ ap NoStore at) pages told;
           }
@@ -320,22 +326,14 @@ module _ {device back : DeviceView} {fault : OpenFault} (handed : IsHandedBack d
         | unsaid same silent ↦ subst (λ (s : Status). IsRunEnd before after source source s) (sym same) tt
       ]
 
-      pub store_refused : IsScriptRun status before after source source
+      pub store_refused : IsScriptRun manner status before after source source
       store_refused = record {
-        run = λ size tables pages told opens.
-            let spent = store_spent is told opens.store in
-            let reads = handed.spent pages told place spent in
-            record {
-              first = opening_state opens;
-              begins = opening_rest opens;
-              run = refused
-                  (λ other there. let same : pages ≡ other = cc in subst (λ (p : Pages). IsSpent p place) same spent)
-                  line (reads.moments (record { pages = pages; is = told })) reads.same_writes refl;
-            };
-        complete = λ size tables pages told opens unspent. absurd (unspent place (store_spent is told opens.store));
+        run = λ size tables pages told opens. absurd (none_opens is pages told size tables opens);
+        complete = λ size tables pages told opens. absurd (none_opens is pages told size tables opens);
         broken = λ other pages told there. absurd (no_place is ((handed.refused.refused pages told).names other there));
         overfull = λ pages told over. subst (λ (p : Place). IsRefused (Damaged p) status before after source source) (named_room is ((handed.refused.refused pages told).overfull over)) (record { alone = overfull_alone pages told over; refusal = says line });
         no_tables = λ pages told none. record { place = place; refused = inr (record { alone = tables_alone pages told none; refusal = says line }) };
+        spent = spent_alone;
         cause = why_damaged;
         taken = taken_none source.bytes (said_is_cut (damaged_is_cut place) line);
         tells = tells_damage (some_none _) line;
@@ -343,18 +341,18 @@ module _ {device back : DeviceView} {fault : OpenFault} (handed : IsHandedBack d
 
 -- ---- a line found the store damaged
 
-module _ (engine : EngineView) {old : View} {before after : Stream} {source_old source_new : Stream} {place : Place} {status : Status} (ran : RunsScript old (seen engine before) source_old source_new (Damaged place)) (line : Says (Damaged place) (damaged_line place) status before after) where
-  end_said : IsScriptEnd old.world (world engine after) source_old source_new status
+module _ {manner : Manner} (driver : DriverView manner) {old : View manner} {before after : Stream} {source_old source_new : Stream} {place : Place} {status : Status} (ran : RunsScript old (seen driver before) source_old source_new (Damaged place)) (line : Says (Damaged place) (damaged_line place) status before after) where
+  end_said : IsScriptEnd old.world (seen driver after).world source_old source_new status
   end_said = elim line.how [
-    | said same takes ↦ subst (λ (s : Status). IsScriptEnd old.world (world engine after) source_old source_new s) (sym same) ran.cause
-    | cut same front rises ↦ subst (λ (s : Status). IsScriptEnd old.world (world engine after) source_old source_new s) (sym same) (rises_since ran.passes.sink rises)
-    | unsaid same silent ↦ subst (λ (s : Status). IsScriptEnd old.world (world engine after) source_old source_new s) (sym same) tt
+    | said same takes ↦ subst (λ (s : Status). IsScriptEnd old.world (seen driver after).world source_old source_new s) (sym same) ran.cause
+    | cut same front rises ↦ subst (λ (s : Status). IsScriptEnd old.world (seen driver after).world source_old source_new s) (sym same) (rises_since ran.passes.sink rises)
+    | unsaid same silent ↦ subst (λ (s : Status). IsScriptEnd old.world (seen driver after).world source_old source_new s) (sym same) tt
   ]
 
   is_cut : IsCut status
   is_cut = said_is_cut (damaged_is_cut place) line
 
-  pub damage_refused : RunsScript old (seen engine after) source_old source_new status
+  pub damage_refused : RunsScript old (seen driver after) source_old source_new status
   damage_refused = record {
     passes = record { told = ran.passes.told; history = ran.passes.history; device = ran.passes.device; sink = omega (arith, ran.passes.sink, line.later); said = some_then ran.passes.said (says_some line) };
     cause = end_said;

@@ -1,5 +1,5 @@
 -- A script, while it is read and run.
-use Rattle.std.proofs.Common.{◌≡◌, inl, inr, ℕ, ◌+◌, ◌-◌, ◌<◌, ◌≤◌, Bool, true, false, List, [], ◌∷◌, ◌++◌, length, take, refl, sym, ◌∙◌, ap, subst, arith, append_assoc, length-append}
+use Rattle.std.proofs.Common.{◌≡◌, inl, inr, ℕ, ◌+◌, ◌-◌, ◌<◌, ◌≤◌, Bool, true, false, List, [], ◌∷◌, ◌++◌, length, refl, sym, ◌∙◌, ap, subst, arith, append_assoc, length-append}
 use Rattle.std.specs.Prelude.{Result, Ok, Err}
 use Rattle.std.proofs.lemmas.List.{append-nil}
 use Rattle.rss_base.specs.DiskRule.{IsTold}
@@ -12,36 +12,34 @@ use Rattle.rss_lines.specs.declared.unread.Unread.{Unread}
 use Rattle.rss_lines.specs.declared.unread.Unread.TheVariants.{ReadFault as Fails, NoMemory as Lacks, TooLong as Exceeds}
 use Rattle.rss_lines.proofs.Streams.{all_then}
 use Rattle.rss_model.specs.Machine.{State}
-use Rattle.rss_model.specs.Variables.{Variable}
-use Rattle.rss_stored.specs.Calls.{EngineView}
-use Rattle.rss_top.specs.Run.{Beginning, HoldsAt, ImagesNow, Story, Stopped, Whole, IsTaken, IsHalt, IsReadThrough, EndsLine}
-use Rattle.rss_top.specs.Lines.{View, seen, seen_with, PassesOn, FromEach, LineRan, RunsLine, RunsScript, IsScriptEnd, unread_status, scene_in, beginning}
+use Rattle.rss_top.specs.Run.{Beginning, Story, Stopped, Whole, IsTaken, IsHalt, IsReadThrough, EndsLine}
+use Rattle.rss_top.specs.Manners.{Manner, IsSound, IsEnough}
+use Rattle.rss_top.specs.Lines.{View, DriverView, seen, PassesOn, OpensBetween, FromEach, LineRan, RunsLine, RunsScript, IsScriptEnd, unread_status, stand_in, beginning}
 use Rattle.rss_top.specs.declared.status.Status.{Status}
 use Rattle.rss_top.specs.declared.status.Status.TheVariants.{Ok as Done, ReadFault, NoMemory, TooLong}
-use Rattle.rss_top.proofs.Ways.{idles, end_since, passes_then}
+use Rattle.rss_top.proofs.Ways.{idles, end_since, passes_then, runs_whole}
 use Rattle.rss_top.proofs.Stories.{story_start, story_bytes, story_line, whole_line, whole_ended, stopped_by_line, stopped_unread}
-use Rattle.rss_top.proofs.Fronts.{kept_limit, runs_whole}
 use Rattle.rss_top.proofs.Endings.{stop_is_cut, line_is_cut, not_halt, not_through, taken_cut, ended_halted, ended_stopped, ended_whole, script_end}
 
 -- ---- the run so far
 
 -- where a run begins from a state
-abbrev pub begun : View → Stream → State → Beginning
-begun old source state = beginning (scene_in old state) old.world source
+abbrev pub begun : {manner : Manner} → View manner → Stream → State → Beginning manner
+begun {manner = manner} old source state = beginning manner (stand_in old state) old.world source
 
 -- All lines of these bytes were run, up to a state that is shown.
-pub record Stands (begin : Beginning) (now : View) (passed : List ℕ) : Type 0 where
+pub record Stands {manner : Manner} (begin : Beginning manner) (now : View manner) (passed : List ℕ) : Type 0 where
   pub state : State
   pub shows : now.shows state
-  pub story : Story begin now.world (scene_in now state) passed []
+  pub story : Story begin now.world (stand_in now state) passed []
 
 -- or the last line was run too, which has no end
-abbrev pub Ran : Beginning → View → List ℕ → Bool → Type 0
+abbrev pub Ran : {manner : Manner} → Beginning manner → View manner → List ℕ → Bool → Type 0
 Ran begin now passed false = Stands begin now passed
 Ran begin now passed true = Whole begin now.world passed
 
 -- So far: these bytes were read, the lines of their front were run, and the rest is left.
-pub record Reading (old now : View) (source_old source_now : Stream) (lines : LinesView) : Type 0 where
+pub record Reading {manner : Manner} (old now : View manner) (source_old source_now : Stream) (lines : LinesView) : Type 0 where
   pub given : List ℕ
   pub passed : List ℕ
   pub parts : given ≡ passed ++ lines.rest
@@ -50,18 +48,14 @@ pub record Reading (old now : View) (source_old source_now : Stream) (lines : Li
   pub gives : Gives source_old.bytes given source_now.bytes
   pub later : source_old.faults ≤ source_now.faults
   pub all : lines.over ≡ true → IsAllOf source_old.bytes given
-  pub keep : lines.keep ≡ kept_limit
+  pub enough : IsEnough manner lines.keep
   pub up : now.is_up
   pub passes : PassesOn old.world now.world
   pub calls : now.calls ≤ old.calls + length passed
   pub ran : IsTold old.world.disk → FromEach old (λ state. Ran (begun old source_old state) now passed lines.over)
 
--- what a stop leaves at first
-abbrev pub IsOpen : View → Type 0
-IsOpen view = IsTold view.world.disk → (state : State) → view.shows state → ImagesNow view.world.disk (HoldsAt (scene_in view state))
-
-pub reads_none : {view : View} (source : Stream) {lines : LinesView} → IsOpen view → view.is_up → lines ≡ at_start kept_limit → Reading view view source source lines
-reads_none {view = view} source opens up is = subst (Reading view view source source) (sym is) (record {
+pub reads_none : {manner : Manner} (driver : DriverView manner) (sink source : Stream) {keep : ℕ} {lines : LinesView} → OpensBetween driver → driver.is_up → IsEnough manner keep → lines ≡ at_start keep → Reading (seen driver sink) (seen driver sink) source source lines
+reads_none driver sink source opens up enough is = subst (Reading (seen driver sink) (seen driver sink) source source) (sym is) (record {
   given = [];
   passed = [];
   parts = refl;
@@ -70,16 +64,17 @@ reads_none {view = view} source opens up is = subst (Reading view view source so
   gives = gives_none source.bytes;
   later = omega arith;
   all = λ over. absurd (cc);
-  keep = refl;
+  enough = enough;
   up = up;
-  passes = idles view.world;
+  passes = idles (seen driver sink).world;
   calls = omega arith;
-  ran = λ told state shown. record { state = state; shows = shown; story = story_start (scene_in view state) view.world source (opens told state shown) };
+  ran = λ told state shown. record { state = state; shows = shown; story = story_start (stand_in (seen driver sink) state) (seen driver sink).world source (opens up told state shown) };
 })
 
 -- memory ran out before anything was read
-pub script_unread : (view : View) (source : Stream) → IsOpen view → RunsScript view view source source NoMemory
-script_unread view source opens =
+pub script_unread : {manner : Manner} (driver : DriverView manner) (sink source : Stream) → OpensBetween driver → driver.is_up → RunsScript (seen driver sink) (seen driver sink) source source NoMemory
+script_unread driver sink source opens up =
+    let view = seen driver sink in
     let lacks = stop_is_cut (inr (inr refl)) in
     let taken : IsTaken NoMemory source.bytes source.bytes = taken_cut [] (gives_none source.bytes) (omega arith) lacks in
     record {
@@ -89,7 +84,7 @@ script_unread view source opens =
       calls = omega arith;
       up = λ ok. absurd (lacks.within (inl ok));
       ended = λ told state shown. ended_stopped NoMemory taken
-          (stopped_unread view state (IsAllOf source.bytes []) [] (story_start (scene_in view state) view.world source (opens told state shown)));
+          (stopped_unread view state (IsAllOf source.bytes []) [] (story_start (stand_in view state) view.world source (opens up told state shown)));
     }
 
 going_of : (over : Bool) → (over ≡ true → ⊥) → over ≡ false
@@ -102,7 +97,7 @@ second_none (x ∷ xs) ys none = absurd (cc)
 
 -- ---- a look for the next line
 
-module _ {old now : View} {source_old source_now source_new : Stream} {lines next : LinesView} {result : Result Bool Unread} (reading : Reading old now source_old source_now lines) (looked : Advances lines next source_now source_new result) where
+module _ {manner : Manner} {old now : View manner} {source_old source_now source_new : Stream} {lines next : LinesView} {result : Result Bool Unread} (reading : Reading old now source_old source_now lines) (looked : Advances lines next source_now source_new result) where
   abbrev given : List ℕ
   given = reading.given ++ looked.more
 
@@ -133,16 +128,16 @@ module _ {old now : View} {source_old source_now source_new : Stream} {lines nex
     stands = subst (Ran (begun old source_old state) now reading.passed) going (reading.ran told state shown)
 
     -- with the front of the next line
-    pub front_story : Story (begun old source_old state) now.world (scene_in now stands.state) (reading.passed ++ looked.line) looked.line
+    pub front_story : Story (begun old source_old state) now.world (stand_in now stands.state) (reading.passed ++ looked.line) looked.line
     front_story = story_bytes looked.line looked.seeks.unbroken stands.story
 
 -- ---- the script is over
 
-whole_of : {begin : Beginning} (now : View) {passed : List ℕ} (over : Bool) → Ran begin now passed over → Whole begin now.world passed
-whole_of now false stands = whole_ended stands.story refl
-whole_of now true whole = whole
+whole_of : {manner : Manner} {begin : Beginning manner} (now : View manner) {passed : List ℕ} (over : Bool) → IsSound manner → Ran begin now passed over → Whole begin now.world passed
+whole_of now false sound stands = whole_ended sound stands.story refl
+whole_of now true sound whole = whole
 
-module _ {old now : View} {source_old source_now source_new : Stream} {lines next : LinesView} (reading : Reading old now source_old source_now lines) (looked : Advances lines next source_now source_new (Ok false)) where
+module _ {manner : Manner} {old now : View manner} {source_old source_now source_new : Stream} {lines next : LinesView} (sound : IsSound manner) (reading : Reading old now source_old source_now lines) (looked : Advances lines next source_now source_new (Ok false)) where
   all_passed : given reading looked ≡ reading.passed
   all_passed = parts reading looked ∙ ap (λ (l : List ℕ). reading.passed ++ l) looked.outcome.0 ∙ append-nil reading.passed
 
@@ -170,12 +165,12 @@ module _ {old now : View} {source_old source_now source_new : Stream} {lines nex
     calls = omega (arith, reading.calls, few reading looked);
     up = λ ok. reading.up;
     ended = λ told state shown. ended_whole taken_all
-        (subst (Whole (begun old source_old state) now.world) (sym all_passed) (whole_of now lines.over (reading.ran told state shown)));
+        (subst (Whole (begun old source_old state) now.world) (sym all_passed) (whole_of now lines.over sound (reading.ran told state shown)));
   }
 
 -- ---- the script is read no further
 
-module _ {old now : View} {source_old source_now source_new : Stream} {lines next : LinesView} (reading : Reading old now source_old source_now lines) (why : Unread) (looked : Advances lines next source_now source_new (Err why)) where
+module _ {manner : Manner} {old now : View manner} {source_old source_now source_new : Stream} {lines next : LinesView} (reading : Reading old now source_old source_now lines) (why : Unread) (looked : Advances lines next source_now source_new (Err why)) where
   still_going : lines.over ≡ false
   still_going = going_of lines.over (λ over. let never = looked.stays_over over in absurd (cc))
 
@@ -198,7 +193,7 @@ module _ {old now : View} {source_old source_now source_new : Stream} {lines nex
         calls = omega (arith, reading.calls, few reading looked);
         up = λ ok. absurd (not_halt halt ok);
         ended = λ told state shown. ended_halted status halt taken
-            (subst (λ (l : List ℕ). Story (begun old source_old state) now.world (scene_in now (stands reading looked still_going told state shown).state) l looked.line) (sym is)
+            (subst (λ (l : List ℕ). Story (begun old source_old state) now.world (stand_in now (stands reading looked still_going told state shown).state) l looked.line) (sym is)
             (front_story reading looked still_going told state shown));
       }
 
@@ -219,19 +214,22 @@ module _ {old now : View} {source_old source_now source_new : Stream} {lines nex
             (stopped_unread now stand.state (IsAllOf source_old.bytes (given reading looked)) (lines.rest ++ looked.more) stand.story));
       }
 
-pub script_cut_off : {old now : View} {source_old source_now source_new : Stream} {lines next : LinesView} (reading : Reading old now source_old source_now lines) (why : Unread) → Advances lines next source_now source_new (Err why) → RunsScript old now source_old source_new (unread_status why)
+pub script_cut_off : {manner : Manner} {old now : View manner} {source_old source_now source_new : Stream} {lines next : LinesView} (reading : Reading old now source_old source_now lines) (why : Unread) → Advances lines next source_now source_new (Err why) → RunsScript old now source_old source_new (unread_status why)
 script_cut_off reading Fails looked = script_halted reading Fails looked ReadFault (inl refl) looked.outcome.0 (λ through. looked.outcome.1) (λ is. absurd (cc)) (rises_since reading.later (looked.cause refl))
 script_cut_off reading Exceeds looked = script_halted reading Exceeds looked TooLong (inr refl) looked.outcome.0 (λ through. absurd (not_through through)) (λ is. looked.outcome.1) tt
 script_cut_off reading Lacks looked = script_lacked reading Lacks looked
 
 -- ---- a line was found
 
-module _ {old now : View} {source_old source_now source_new : Stream} {lines next : LinesView} (reading : Reading old now source_old source_now lines) (looked : Advances lines next source_now source_new (Ok true)) where
+module _ {manner : Manner} {old now : View manner} {source_old source_now source_new : Stream} {lines next : LinesView} (sound : IsSound manner) (reading : Reading old now source_old source_now lines) (looked : Advances lines next source_now source_new (Ok true)) where
   line_going : lines.over ≡ false
   line_going = going_of lines.over (λ over. let never = looked.stays_over over in absurd (cc))
 
-  pub line_kept : next.line ≡ take kept_limit looked.line
-  line_kept = looked.seeks.kept ∙ ap (λ (k : ℕ). take k looked.line) reading.keep
+  line_short : length looked.line ≤ script_limit
+  line_short = elim looked.outcome [
+    | ended is going ↦ omega (arith, ap length (line_parts reading looked (10 ∷ next.rest) is), length-append (reading.passed ++ looked.line) (10 ∷ next.rest), length-append reading.passed looked.line, most reading looked)
+    | last is some over ↦ omega (arith, ap length (parts reading looked), length-append reading.passed (lines.rest ++ looked.more), ap length is, most reading looked)
+  ]
 
   last_given : next.over ≡ true → IsAllOf source_old.bytes (given reading looked)
   last_given over = elim (looked.over over).all [
@@ -255,9 +253,9 @@ module _ {old now : View} {source_old source_now source_new : Stream} {lines nex
     | last is some over ↦ omega (arith, ap length is, length-append lines.rest looked.more, some, looked.seeks.taken, looked.seeks.most, ap length (looked.over over).none)
   ]
 
-  module _ {new : View} {T : Type 0} {done : T} (runs : RunsLine now new next.line (Ok done)) where
+  module _ {new : View manner} {T : Type 0} {done : T} (runs : RunsLine now new next.line (Ok done)) where
     whole_runs : RunsLine now new looked.line (Ok done)
-    whole_runs = runs_whole looked.line (Ok done) line_kept runs
+    whole_runs = runs_whole reading.enough looked.line line_short (Ok done) looked.seeks.kept runs
 
     module _ (told : IsTold old.world.disk) (state : State) (shown : old.shows state) where
       abbrev stand : Stands (begun old source_old state) now reading.passed
@@ -274,7 +272,7 @@ module _ {old now : View} {source_old source_now source_new : Stream} {lines nex
       }
 
       last_ran : 0 < length looked.line → Whole (begun old source_old state) new.world (reading.passed ++ looked.line)
-      last_ran some = whole_line {old = now} {new = new} (front_story reading looked line_going told state shown) (λ empty. omega (arith, ap length empty, some)) line_ran
+      last_ran some = whole_line {old = now} {new = new} (front_story reading looked line_going told state shown) sound (λ empty. omega (arith, ap length empty, some)) line_ran
 
     reads_to : (passed : List ℕ) → given reading looked ≡ passed ++ next.rest → length reading.passed < length passed → (IsTold old.world.disk → FromEach old (λ state. Ran (begun old source_old state) new passed next.over))
         → Reading old new source_old source_new next
@@ -287,7 +285,7 @@ module _ {old now : View} {source_old source_now source_new : Stream} {lines nex
       gives = gives reading looked;
       later = later reading looked;
       all = last_given;
-      keep = looked.seeks.same_keep ∙ reading.keep;
+      enough = subst (IsEnough manner) (sym looked.seeks.same_keep) reading.enough;
       up = runs.outcome.0;
       passes = passes_then reading.passes runs.passes;
       calls = omega (arith, reading.calls, runs.calls, more);
@@ -305,9 +303,9 @@ module _ {old now : View} {source_old source_now source_new : Stream} {lines nex
     ]
 
   -- the run ends within the line
-  module _ {new : View} {T : Type 0} (status : Status) (runs : RunsLine {T = T} now new next.line (Err status)) where
+  module _ {new : View manner} {T : Type 0} (status : Status) (runs : RunsLine {T = T} now new next.line (Err status)) where
     whole_stops : RunsLine {T = T} now new looked.line (Err status)
-    whole_stops = runs_whole {T = T} looked.line (Err status) line_kept runs
+    whole_stops = runs_whole reading.enough looked.line line_short {T = T} (Err status) looked.seeks.kept runs
 
     stopped_with : (behind : List ℕ) → lines.rest ++ looked.more ≡ looked.line ++ behind → EndsLine (IsAllOf source_old.bytes (given reading looked)) behind → IsTold old.world.disk → (state : State) → old.shows state
         → Stopped status (begun old source_old state) new.world (given reading looked) (IsAllOf source_old.bytes (given reading looked))
@@ -338,9 +336,5 @@ module _ {old now : View} {source_old source_now source_new : Stream} {lines nex
         }
 
 -- the same line
-pub line_as : {T : Type 0} {old new : View} {line same : List ℕ} (result : Result T Status) → line ≡ same → RunsLine old new line result → RunsLine old new same result
+pub line_as : {manner : Manner} {T : Type 0} {old new : View manner} {line same : List ℕ} (result : Result T Status) → line ≡ same → RunsLine old new line result → RunsLine old new same result
 line_as {T = T} {old = old} {new = new} result is runs = subst (λ (l : List ℕ). RunsLine {T = T} old new l result) is runs
-
--- what the variables stand for behind a script is not looked at
-pub script_seen : {old : View} {names : List Variable} (engine : EngineView) (sink : Stream) {source_old source_new : Stream} {status : Status} → RunsScript old (seen_with names engine sink) source_old source_new status → RunsScript old (seen engine sink) source_old source_new status
-script_seen engine sink runs = record { passes = runs.passes; cause = runs.cause; taken = runs.taken; calls = runs.calls; up = runs.up; ended = runs.ended }

@@ -3,13 +3,12 @@ use Rattle.std.proofs.Common.{◌≡◌, ◌⊎◌, inl, inr, ⊎_elim, ℕ, ◌
 use Rattle.rss_base.specs.DiskRule.{Pages}
 use Rattle.rss_base.specs.Faults.{Rises}
 use Rattle.rss_base.specs.Streams.{Stream}
-use Rattle.rss_base.specs.declared.place.Place.{Place}
 use Rattle.rss_lines.specs.Lines.{script_limit}
 use Rattle.rss_model.specs.Machine.{StoreSize}
 use Rattle.rss_stored.specs.Store.{OpensTo}
 use Rattle.rss_model.specs.Tables.{Tables}
 use Rattle.rss_stored.proofs.Stores.{store_unbroken}
-use Rattle.rss_store.specs.Opening.{IsSpent}
+use Rattle.rss_top.specs.Manners.{Manner}
 use Rattle.rss_top.specs.Run.{World}
 use Rattle.rss_top.specs.Says.IsSaid.{said, cut, unsaid}
 use Rattle.rss_top.specs.Trial.{TellsTrial}
@@ -18,14 +17,14 @@ use Rattle.rss_top.specs.declared.status.Status.{Status}
 use Rattle.rss_top.specs.declared.status.Status.TheVariants.{Ok, Words, ReadFault, WriteFault, DeviceFault, NotAStore, Damaged, NoMemory, TooLong, WrongSize}
 
 -- a run isn't stopped for its script's length that gets a script which is short enough
-pub ends_short : {ran : Status} {old new : World} {source_old source_new : Stream} (script : List ℕ) → source_old.bytes ≡ Some script → length script < script_limit → IsScriptRun ran old new source_old source_new → ran ≡ TooLong → ⊥
+pub ends_short : {manner : Manner} {ran : Status} {old new : World} {source_old source_new : Stream} (script : List ℕ) → source_old.bytes ≡ Some script → length script < script_limit → IsScriptRun manner ran old new source_old source_new → ran ≡ TooLong → ⊥
 ends_short script told short runs is =
     let moved = runs.taken.gives.moves script told in
     omega (arith, short, runs.taken.too_long is, ap (λ (l : List ℕ). length l) moved.2, length-append runs.taken.given moved.0)
 
--- over a store of which the positions of the log are not used up, where neither device nor sink fails
+-- over a store, where neither device nor sink fails
 module _ (old new : World) (sink_old sink_new source_old source_new : Stream) (replies : List ℕ) {status : Status} {pages : Pages} {size : StoreSize} {tables : Tables}
-    (told : old.disk.contents ≡ Some pages) (opens : OpensTo pages size tables) (unspent : (place : Place) → IsSpent pages place → ⊥)
+    (told : old.disk.contents ≡ Some pages) (opens : OpensTo pages size tables)
     (sink : Rises old.sink.faults new.sink.faults → ⊥) (device : Rises old.faults new.faults → ⊥) where
   pub completes_trial : (ran : Status) → IsRunEnd (with_sink old sink_old) (with_sink new sink_new) source_old source_new ran → TellsTrial ran replies status old.sink new.sink → (status ≡ Ok) ⊎ (status ≡ NoMemory)
   completes_trial Ok cause tells = elim tells.says.how [
@@ -35,7 +34,7 @@ module _ (old new : World) (sink_old sink_new source_old source_new : Stream) (r
   ]
   completes_trial (NotAStore place) cause tells = absurd (store_unbroken opens place (cause.0 pages told))
   completes_trial (Damaged place) cause tells = absurd (⊎_elim
-      (λ turned. ⊎_elim (λ none. none size tables opens) (λ spent. unspent place spent) turned.why)
+      (λ turned. turned.why size tables opens)
       (λ found. found.none size tables opens)
       (cause pages told))
   completes_trial DeviceFault cause tells = absurd (device cause)

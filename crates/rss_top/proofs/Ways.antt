@@ -1,15 +1,19 @@
 -- The ways in which a function that runs lines ends.
-use Rattle.std.proofs.Common.{◌≡◌, ℕ, List, sym, ◌∙◌, ap, subst, arith}
+use Rattle.std.proofs.Common.{◌≡◌, ℕ, ◌≤◌, List, length, take, sym, ◌∙◌, ap, subst, arith}
 use Rattle.std.specs.Prelude.{Result, Ok, Err, IsErrAnd}
 use Rattle.std.proofs.lemmas.Result.{err_from_is_err_and}
+use Rattle.rss_base.specs.DiskRule.{Disk}
 use Rattle.rss_base.specs.Faults.{Rises}
 use Rattle.rss_base.proofs.Moments.{started, continues_then, rises_since}
 use Rattle.rss_base.specs.Streams.{Stream, TakesFront, TakesSome}
 use Rattle.rss_base.proofs.Flows.{some_none, some_then}
 use Rattle.rss_model.specs.Machine.{State}
+use Rattle.rss_model.specs.Plays.{Made}
 use Rattle.rss_top.specs.Run.{World}
 use Rattle.rss_top.specs.Says.{IsWritten}
-use Rattle.rss_top.specs.Lines.{View, PassesOn, IsLineEnd, Runs, DeviceStopped, SinkStopped, MemoryStopped, LineStopped}
+use Rattle.rss_lines.specs.Lines.{script_limit}
+use Rattle.rss_top.specs.Manners.{Manner, Stand, IsEnough}
+use Rattle.rss_top.specs.Lines.{View, PassesOn, IsLineEnd, LineDone, LineRan, RunsLine, DeviceStopped, SinkStopped, MemoryStopped, LineStopped}
 use Rattle.rss_top.specs.declared.status.Status.{Status}
 use Rattle.rss_top.specs.declared.status.Status.TheVariants.{Ok as Done, Words, ReadFault, WriteFault, DeviceFault, NotAStore, Damaged, NoMemory, TooLong, WrongSize}
 
@@ -40,7 +44,7 @@ end_since new TooLong passes cause = cause
 end_since new WrongSize passes cause = cause
 
 -- a line stops a run in three ways
-pub by_stop : {old new : View} {state : State} {line : List ℕ} (P : Status → Type 0) (status : Status) → (DeviceStopped old new state line → P DeviceFault) → (SinkStopped old new state line → P WriteFault) → (MemoryStopped old new state → P NoMemory)
+pub by_stop : {manner : Manner} {old new : View manner} {state : State} {line : List ℕ} (P : Status → Type 0) (status : Status) → (DeviceStopped old new state line → P DeviceFault) → (SinkStopped old new state line → P WriteFault) → (MemoryStopped old new state → P NoMemory)
     → LineStopped old new state line status → P status
 by_stop P DeviceFault device sink memory stop = device stop
 by_stop P WriteFault device sink memory stop = sink stop
@@ -72,14 +76,32 @@ pub written_some : {T : Type 0} (line : List ℕ) (before after : Stream) (resul
 written_some line before after (Ok done) takes = record { said = line; takes = takes }
 written_some {T = T} line before after (Err status) cut = by_cut T line before after (λ s. TakesSome before.bytes after.bytes) status (λ front rises. record { said = front.front; takes = front.takes }) cut
 
-module _ {most : ℕ} {old new : View} {on : Type 0} {stopped : Status → Type 0} where
-  -- the error that `?` passes on
-  pub passed_on : {S T : Type 0} {status : Status} (result : Result T Status) → IsErrAnd result (λ why. why ≡ status) → Runs {T = S} most old new on stopped (Err status) → Runs most old new on stopped result
-  passed_on {S = S} {T = T} {status = status} result is runs =
-      let why = err_from_is_err_and result is in
-      subst (λ (r : Result T Status). Runs most old new on stopped r) (sym (why.1 ∙ ap Err why.2)) (record { passes = runs.passes; calls = runs.calls; outcome = runs.outcome })
+-- the error that `?` passes on
+pub passed_on : {manner : Manner} {old new : View manner} {line : List ℕ} {S T : Type 0} {status : Status} (result : Result T Status) → IsErrAnd result (λ why. why ≡ status) → RunsLine {T = S} old new line (Err status) → RunsLine old new line result
+passed_on {old = old} {new = new} {line = line} {T = T} result is runs =
+    let why = err_from_is_err_and result is in
+    subst (λ (r : Result T Status). RunsLine old new line r) (sym (why.1 ∙ ap Err why.2)) (record { passes = runs.passes; calls = runs.calls; outcome = runs.outcome })
 
-  -- other words for the same runs
-  pub runs_as : {T : Type 0} {on_too : Type 0} {stopped_too : Status → Type 0} (result : Result T Status) → (on → on_too) → ((status : Status) → stopped status → stopped_too status) → Runs most old new on stopped result → Runs most old new on_too stopped_too result
-  runs_as (Ok done) ok err runs = record { passes = runs.passes; calls = runs.calls; outcome = (runs.outcome.0, λ told. ok (runs.outcome.1 told)) }
-  runs_as (Err status) ok err runs = record { passes = runs.passes; calls = runs.calls; outcome = (runs.outcome.0, λ told. err status (runs.outcome.1 told)) }
+-- ---- the front of a line, of which so much is kept that it does what the line does
+
+module _ {manner : Manner} {keep : ℕ} (enough : IsEnough manner keep) (line : List ℕ) (short : length line ≤ script_limit) where
+  done_whole : {earlier later : Disk} {old next : Stand manner.Memory} {made : Made} → LineDone manner earlier later old (take keep line) made next → LineDone manner earlier later old line made next
+  done_whole done = record { move = enough.does _ _ line _ short done.move; moments = done.moments }
+
+  module _ (old new : View manner) (state : State) where
+    ran_whole : LineRan old new state (take keep line) → LineRan old new state line
+    ran_whole ran = record { made = ran.made; next = ran.next; shows = ran.shows; done = done_whole ran.done; opens = ran.opens; takes = ran.takes }
+
+    stopped_whole : (status : Status) → LineStopped old new state (take keep line) status → LineStopped old new state line status
+    stopped_whole status stop = by_stop (LineStopped old new state line) status
+        (λ stop. record { made = stop.made; next = stop.next; done = done_whole stop.done; same = stop.same })
+        (λ stop. record { made = stop.made; next = stop.next; done = done_whole stop.done; opens = stop.opens; takes = stop.takes })
+        (λ stop. stop)
+        stop
+
+  pub runs_whole : {T : Type 0} {old new : View manner} {front : List ℕ} (result : Result T Status) → front ≡ take keep line → RunsLine old new front result → RunsLine old new line result
+  runs_whole {T = T} {old = old} {new = new} result is runs = whole result (subst (λ (l : List ℕ). RunsLine {T = T} old new l result) is runs)
+    where
+      whole : (result : Result T Status) → RunsLine old new (take keep line) result → RunsLine old new line result
+      whole (Ok done) runs = record { passes = runs.passes; calls = runs.calls; outcome = (runs.outcome.0, λ told state shown. ran_whole old new state (runs.outcome.1 told state shown)) }
+      whole (Err status) runs = record { passes = runs.passes; calls = runs.calls; outcome = (runs.outcome.0, λ told state shown. stopped_whole old new state status (runs.outcome.1 told state shown)) }

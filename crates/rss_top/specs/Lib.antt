@@ -1,4 +1,8 @@
 pub mod Exit
+pub mod Heard
+pub mod Manners
+pub mod Tellings
+pub mod TellingLaws
 pub mod Run
 pub mod Lines
 pub mod Says

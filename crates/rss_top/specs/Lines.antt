@@ -1,20 +1,23 @@
 -- What the functions that run lines say, each of what it runs.
-use Rattle.std.specs.Prelude.{◌≡◌, ℕ, ◌+◌, ◌≤◌, List, [], length, Option, Result, Ok, Err, ⊤}
+use Rattle.std.specs.Prelude.{◌≡◌, ℕ, ◌+◌, ◌≤◌, List, length, Result, Ok, Err, ⊤}
 use Rattle.rss_base.specs.DiskRule.{Disk, IsTold, Passes, Continues}
 use Rattle.rss_base.specs.Devices.{DeviceView}
 use Rattle.rss_base.specs.Faults.{Rises}
 use Rattle.rss_base.specs.Streams.{Stream, Takes, TakesFront, TakesSome}
-use Rattle.rss_base.specs.declared.name.Name.{Name}
 use Rattle.rss_base.specs.declared.call.Call.{Call}
 use Rattle.rss_lines.specs.declared.unread.Unread.{Unread}
 use Rattle.rss_lines.specs.declared.unread.Unread.TheVariants.{ReadFault as Fails, NoMemory as Lacks, TooLong as Exceeds}
 use Rattle.rss_model.specs.Machine.{State}
 use Rattle.rss_model.specs.Steps.{Answer}
 use Rattle.rss_model.specs.Variables.{Variable}
-use Rattle.rss_model.specs.Forms.{Spells}
+use Rattle.rss_model.specs.Script.{line_limit}
 use Rattle.rss_model.specs.Plays.{Scene, Made, LineStep}
 use Rattle.rss_stored.specs.Calls.{States, EngineView, GoesOn, IsAnswer, IsFault, IsDamaged, IsUnanswered}
+use Rattle.rss_top.specs.Heard.{made_of}
+use Rattle.rss_top.specs.Manners.{Stand, Manner}
+use Rattle.rss_top.specs.Tellings.{Telling, told_by, plainly}
 use Rattle.rss_top.specs.Run.{World, Beginning, point_now, OpensAt, HoldsAt, OpensAtEither, ImagesNow, IsTaken, Ended}
+use Rattle.rss_top.specs.declared.heard.Heard.{Heard}
 use Rattle.rss_top.specs.declared.status.Status.{Status}
 use Rattle.rss_top.specs.declared.status.Status.TheVariants.{Ok as Done, ReadFault, TooLong, WriteFault, DeviceFault, Damaged, NoMemory}
 
@@ -31,30 +34,55 @@ on device sink = world_of device.disk device.writes device.faults sink
 abbrev pub world : EngineView → Stream → World
 world engine sink = world_of engine.disk engine.writes engine.faults sink
 
--- an engine with how many calls it was asked for, a sink, and what the variables of a script stand for
-pub record View : Type 1 where
+-- What there is to see of what runs lines in some manner, and of a sink.
+-- shows: the states of the machine that it may be in, where the device tells its contents.
+-- memory: what is remembered of the lines. calls: how many calls its engine was asked for.
+pub record View (manner : Manner) : Type 1 where
   pub world : World
   pub shows : States
-  pub names : List Variable
+  pub memory : manner.Memory
   pub is_up : Type 0
   pub calls : ℕ
 
-abbrev pub seen_with : List Variable → EngineView → Stream → View
-seen_with names engine sink = record {
-  world = world engine sink;
+-- and of it alone
+pub record DriverView (manner : Manner) : Type 1 where
+  pub disk : Disk
+  pub writes : ℕ
+  pub faults : ℕ
+  pub shows : States
+  pub memory : manner.Memory
+  pub is_up : Type 0
+  pub calls : ℕ
+
+abbrev pub seen : {manner : Manner} → DriverView manner → Stream → View manner
+seen driver sink = record {
+  world = world_of driver.disk driver.writes driver.faults sink;
+  shows = driver.shows;
+  memory = driver.memory;
+  is_up = driver.is_up;
+  calls = driver.calls;
+}
+
+-- an engine whose lines are told, with what their variables stand for, and what is remembered besides
+abbrev pub told_over : (telling : Telling) → List Variable → telling.Memory → EngineView
+    → DriverView (told_by telling)
+told_over telling names memory engine = record {
+  disk = engine.disk;
+  writes = engine.writes;
+  faults = engine.faults;
   shows = engine.shows;
-  names = names;
+  memory = record { names = names; memory = memory };
   is_up = engine.is_up;
   calls = engine.calls;
 }
 
--- where a script begins: no variable stands for anything
-abbrev pub seen : EngineView → Stream → View
-seen engine sink = seen_with [] engine sink
+-- one whose lines get their replies
+abbrev pub seen_with : List Variable → EngineView → Stream → View (told_by plainly)
+seen_with names engine sink = seen (told_over plainly names tt engine) sink
 
--- the scene of a state
-abbrev pub scene_in : View → State → Scene
-scene_in view state = record { state = state; names = view.names }
+-- the stand of a state
+abbrev pub stand_in : {manner : Manner} → View manner → State → Stand manner.Memory
+stand_in view state = record { state = state; memory = view.memory }
 
 -- what is so whatever was run, and however it ended
 pub record PassesOn (old new : World) : Type 0 where
@@ -79,53 +107,6 @@ pub record IsAsked (old new : EngineView) (call : Call) (result : Result Answer 
   pub goes : GoesOn old new call
   pub outcome : IsCallEnd old new call result
 
--- ---- a line
-
--- A line is a step of the machine, and at each moment of it the pages open to the committed tables
--- before or after.
-pub record LineDone (earlier later : Disk) (old : Scene) (line : List ℕ) (made : Made) (new : Scene)
-    : Type 0 where
-  pub step : LineStep old line made new
-  pub moments : Passes earlier later (OpensAtEither old new)
-
--- From a state, the line was run, and its reply written.
-pub record LineRan (old new : View) (state : State) (line : List ℕ) : Type 0 where
-  pub made : Made
-  pub next : State
-  pub shows : new.shows next
-  pub done : LineDone old.world.disk new.world.disk (scene_in old state) line made (scene_in new next)
-  pub opens : ImagesNow new.world.disk (HoldsAt (scene_in new next))
-  pub takes : Takes old.world.sink.bytes made.text new.world.sink.bytes
-
--- the device failed within the line
-pub record DeviceStopped (old new : View) (state : State) (line : List ℕ) : Type 0 where
-  pub made : Made
-  pub next : Scene
-  pub done : LineDone old.world.disk new.world.disk (scene_in old state) line made next
-  pub same : new.world.sink.bytes ≡ old.world.sink.bytes
-
--- the line was run, and the front of its reply written
-pub record SinkStopped (old new : View) (state : State) (line : List ℕ) : Type 0 where
-  pub made : Made
-  pub next : Scene
-  pub done : LineDone old.world.disk new.world.disk (scene_in old state) line made next
-  pub opens : ImagesNow new.world.disk (HoldsAt next)
-  pub takes : TakesFront old.world.sink.bytes made.text new.world.sink.bytes
-
--- memory ran out in the line, and no table has changed
-pub record MemoryStopped (old new : View) (state : State) : Type 0 where
-  pub moments : Passes old.world.disk new.world.disk (OpensAt (scene_in old state))
-  pub same : new.world.sink.bytes ≡ old.world.sink.bytes
-
--- the run ended within the line, by its status
-abbrev pub LineStopped : View → View → State → List ℕ → Status → Type 0
-LineStopped old new state line DeviceFault = DeviceStopped old new state line
-LineStopped old new state line WriteFault = SinkStopped old new state line
-LineStopped old new state line NoMemory = MemoryStopped old new state
-LineStopped old new state line status = ⊥
-
--- ---- how a function that runs lines ends
-
 -- The cause of a status with which a line ends the run: it has no other. That damage is found from no
 -- state that is shown, is said by how the run has stopped.
 abbrev pub IsLineEnd : World → World → Status → Type 0
@@ -135,43 +116,134 @@ IsLineEnd old new NoMemory = ⊤
 IsLineEnd old new (Damaged place) = ⊤
 IsLineEnd old new status = ⊥
 
--- By its result: the engine is still up, and so it goes on; or the run has stopped with a status.
-abbrev pub RunsTo : {T : Type 0} → View → View → Type 0 → (Status → Type 0) → Result T Status
-    → Type 0
-RunsTo old new on stopped (Ok done) = new.is_up × (IsTold old.world.disk → on)
-RunsTo old new on stopped (Err status) =
-    IsLineEnd old.world new.world status × (IsTold old.world.disk → stopped status)
+-- ---- what a line got
 
--- The engine is asked for no more calls than this.
-pub record Runs {T : Type 0} (most : ℕ) (old new : View) (on : Type 0) (stopped : Status → Type 0)
-    (result : Result T Status) : Type 0 where
-  pub passes : PassesOn old.world new.world
-  pub calls : new.calls ≤ old.calls + most
-  pub outcome : RunsTo old new on stopped result
+-- From a state, the line is a step of the play that made this, and at each moment of it the pages open
+-- to the committed tables before or after.
+pub record StepDone (earlier later : Disk) (old : Scene) (line : List ℕ) (said : Made) (new : Scene)
+    : Type 0 where
+  pub step : LineStep old line said new
+  pub moments : Passes earlier later (OpensAtEither old.state new.state)
+
+-- it led to a state that is shown
+pub record StepHeard (old new : EngineView) (names after : List Variable) (state : State)
+    (line : List ℕ) (said : Made) : Type 0 where
+  pub next : State
+  pub shows : new.shows next
+  pub done : StepDone old.disk new.disk (record { state = state; names = names }) line said
+      (record { state = next; names = after })
+
+-- the device failed within it
+pub record StepFailed (old new : EngineView) (names : List Variable) (state : State)
+    (line : List ℕ) : Type 0 where
+  pub said : Made
+  pub next : Scene
+  pub done : StepDone old.disk new.disk (record { state = state; names = names }) line said next
+
+-- The line got nothing, by the status: memory ran out before it changed a table, or the device failed.
+abbrev pub IsUnheard : EngineView → EngineView → List Variable → State → List ℕ → Status → Type 0
+IsUnheard old new names state line DeviceFault = StepFailed old new names state line
+IsUnheard old new names state line NoMemory = Passes old.disk new.disk (OpensAt state)
+IsUnheard old new names state line status = ⊥
+
+-- by the result
+abbrev pub HearsTo : EngineView → EngineView → List Variable → List Variable → List ℕ
+    → Result Heard Status → Type 0
+HearsTo old new names after line (Ok heard) =
+    new.is_up × (length (made_of heard).text ≤ line_limit)
+    × (IsTold old.disk → (state : State) → old.shows state
+    → StepHeard old new names after state line (made_of heard))
+HearsTo old new names after line (Err status) =
+    ((sink : Stream) → IsLineEnd (world old sink) (world new sink) status)
+    × (IsTold old.disk → (state : State) → old.shows state
+    → IsUnheard old new names state line status)
+
+-- A line was read and its call made, if it is one.
+pub record Hears (old new : EngineView) (names after : List Variable) (line : List ℕ)
+    (result : Result Heard Status) : Type 0 where
+  pub told : IsTold old.disk → IsTold new.disk
+  pub history : IsTold old.disk → Continues old.disk new.disk
+  pub later : old.faults ≤ new.faults
+  pub calls : new.calls ≤ old.calls + 1
+  pub outcome : HearsTo old new names after line result
+
+-- ---- a line
+
+-- A line is a move, and at each moment of it the pages open to the committed tables before or after.
+pub record LineDone (manner : Manner) (earlier later : Disk) (old : Stand manner.Memory)
+    (line : List ℕ) (made : Made) (new : Stand manner.Memory) : Type 0 where
+  pub move : manner.Move old line made new
+  pub moments : Passes earlier later (OpensAtEither old.state new.state)
+
+-- From a state, the line was run, and what is told of it was written.
+pub record LineRan {manner : Manner} (old new : View manner) (state : State) (line : List ℕ)
+    : Type 0 where
+  pub made : Made
+  pub next : State
+  pub shows : new.shows next
+  pub done : LineDone manner old.world.disk new.world.disk (stand_in old state) line made
+      (stand_in new next)
+  pub opens : ImagesNow new.world.disk (HoldsAt next)
+  pub takes : Takes old.world.sink.bytes made.text new.world.sink.bytes
+
+-- the device failed within the line
+pub record DeviceStopped {manner : Manner} (old new : View manner) (state : State)
+    (line : List ℕ) : Type 0 where
+  pub made : Made
+  pub next : Stand manner.Memory
+  pub done : LineDone manner old.world.disk new.world.disk (stand_in old state) line made next
+  pub same : new.world.sink.bytes ≡ old.world.sink.bytes
+
+-- the line was run, and the front of what is told of it was written
+pub record SinkStopped {manner : Manner} (old new : View manner) (state : State)
+    (line : List ℕ) : Type 0 where
+  pub made : Made
+  pub next : Stand manner.Memory
+  pub done : LineDone manner old.world.disk new.world.disk (stand_in old state) line made next
+  pub opens : ImagesNow new.world.disk (HoldsAt next.state)
+  pub takes : TakesFront old.world.sink.bytes made.text new.world.sink.bytes
+
+-- memory ran out in the line, and no table has changed
+pub record MemoryStopped {manner : Manner} (old new : View manner) (state : State)
+    : Type 0 where
+  pub moments : Passes old.world.disk new.world.disk (OpensAt state)
+  pub same : new.world.sink.bytes ≡ old.world.sink.bytes
+
+-- the run ended within the line, by its status
+abbrev pub LineStopped : {manner : Manner} → View manner → View manner → State → List ℕ → Status
+    → Type 0
+LineStopped old new state line DeviceFault = DeviceStopped old new state line
+LineStopped old new state line WriteFault = SinkStopped old new state line
+LineStopped old new state line NoMemory = MemoryStopped old new state
+LineStopped old new state line status = ⊥
+
+-- ---- how a function that runs lines ends
 
 -- whatever state is shown
-abbrev pub FromEach : View → (State → Type 0) → Type 0
+abbrev pub FromEach : {manner : Manner} → View manner → (State → Type 0) → Type 0
 FromEach view P = (state : State) → view.shows state → P state
 
--- each line that spells the call, for a variable or none
-abbrev pub FromLines : View → Option Name → Call → (List ℕ → Type 0) → Type 0
-FromLines view variable call P = (line : List ℕ) → Spells view.names line variable call → P line
+-- By its result: the engine is still up, and so it goes on; or the run has stopped with a status.
+abbrev pub LineEnds : {manner : Manner} {T : Type 0} → View manner → View manner → List ℕ
+    → Result T Status → Type 0
+LineEnds old new line (Ok done) =
+    new.is_up × (IsTold old.world.disk → FromEach old (λ state. LineRan old new state line))
+LineEnds old new line (Err status) =
+    IsLineEnd old.world new.world status
+    × (IsTold old.world.disk → FromEach old (λ state. LineStopped old new state line status))
 
--- the line of a call, and its reply
-abbrev pub RunsCall : {T : Type 0} → View → View → Option Name → Call → Result T Status → Type 0
-RunsCall old new variable call result =
-    Runs 1 old new
-    (FromEach old (λ state. FromLines old variable call (LineRan old new state)))
-    (λ status. FromEach old (λ state.
-    FromLines old variable call (λ line. LineStopped old new state line status)))
-    result
+-- A line was run. The engine is asked for one call at most.
+pub record RunsLine {manner : Manner} {T : Type 0} (old new : View manner) (line : List ℕ)
+    (result : Result T Status) : Type 0 where
+  pub passes : PassesOn old.world new.world
+  pub calls : new.calls ≤ old.calls + 1
+  pub outcome : LineEnds old new line result
 
-abbrev pub RunsLine : {T : Type 0} → View → View → List ℕ → Result T Status → Type 0
-RunsLine old new line result =
-    Runs 1 old new
-    (FromEach old (λ state. LineRan old new state line))
-    (λ status. FromEach old (λ state. LineStopped old new state line status))
-    result
+-- A stop between two lines leaves the committed tables.
+abbrev pub OpensBetween : {manner : Manner} → DriverView manner → Type 0
+OpensBetween driver =
+    driver.is_up → IsTold driver.disk → (state : State) → driver.shows state
+    → ImagesNow driver.disk (HoldsAt state)
 
 -- ---- a script
 
@@ -189,21 +261,22 @@ IsScriptEnd old new source_old source_new ReadFault = Rises source_old.faults so
 IsScriptEnd old new source_old source_new status = IsLineEnd old new status
 
 -- where a run of an engine begins
-abbrev pub beginning : Scene → World → Stream → Beginning
-beginning scene now source = record {
-  point = point_now scene now.disk;
+abbrev pub beginning : (manner : Manner) → Stand manner.Memory → World → Stream → Beginning manner
+beginning manner stand now source = record {
+  point = point_now manner stand now.disk;
   left = source.bytes;
   written = now.sink.bytes;
 }
 
 -- A script was run over an engine, from whatever state is shown. The engine is up behind one that
 -- was run to its end, and each call has a byte of it.
-pub record RunsScript (old new : View) (source_old source_new : Stream) (status : Status)
-    : Type 0 where
+pub record RunsScript {manner : Manner} (old new : View manner) (source_old source_new : Stream)
+    (status : Status) : Type 0 where
   pub passes : PassesOn old.world new.world
   pub cause : IsScriptEnd old.world new.world source_old source_new status
   pub taken : IsTaken status source_old.bytes source_new.bytes
   pub calls : new.calls ≤ old.calls + length taken.given
   pub up : status ≡ Done → new.is_up
   pub ended : IsTold old.world.disk → FromEach old (λ state.
-      Ended status (beginning (scene_in old state) old.world source_old) new.world source_new.bytes)
+      Ended status (beginning manner (stand_in old state) old.world source_old) new.world
+      source_new.bytes)

@@ -8,14 +8,16 @@ use Rattle.rss_lines.specs.Lines.{script_limit}
 use Rattle.rss_model.specs.Tables.{Tables}
 use Rattle.rss_model.specs.Generator.{generated}
 use Rattle.rss_model.specs.Machine.{StoreSize, State, IsAtRest}
-use Rattle.rss_model.specs.Plays.{plain}
 use Rattle.rss_model.specs.ReplyText.{not_a_store_line, damaged_line}
 use Rattle.rss_model.specs.Script.{joined}
 use Rattle.rss_stored.specs.Store.{OpensTo, IsBrokenAt, IsOverfull, IsNoStore}
 use Rattle.rss_store.specs.Formatted.{AreSizes}
 use Rattle.rss_store.specs.Opening.{HasTables, IsSpent, HasNamed}
-use Rattle.rss_words.specs.Words.{AreRun, AreFormat, AreGenerate, AreTrial, IsCommand}
+use Rattle.rss_words.specs.Words.{AreOnFile, AreFormat, AreGenerate, AreTrial, IsCommand}
 use Rattle.rss_base.specs.Streams.{Stream}
+use Rattle.rss_top.specs.Manners.{Manner}
+use Rattle.rss_words.specs.declared.task.Task.TheVariants.{Run, Talk}
+use Rattle.rss_top.specs.Tellings.{told_by, plainly, talking}
 use Rattle.rss_top.specs.Run.{World, IsTaken, IsRun}
 use Rattle.rss_top.specs.Lines.{IsScriptEnd}
 use Rattle.rss_top.specs.Says.{Says, TellsDamage}
@@ -63,24 +65,23 @@ pub record IsRefusedSomewhere (status : Status) (old new : World) (source_old so
 -- ---- a script, run over a device
 
 -- One run, from a state of the machine that begins so.
-pub record IsRunFrom (Begins : State → Type 0) (status : Status) (old new : World)
-    (left_old left_new : Option (List ℕ)) : Type 0 where
+pub record IsRunFrom (manner : Manner) (Begins : State → Type 0) (status : Status)
+    (old new : World) (left_old left_new : Option (List ℕ)) : Type 0 where
   pub first : State
   pub begins : Begins first
-  pub run : IsRun status (plain first) old new left_old left_new
+  pub run : IsRun manner status first old new left_old left_new
 
--- The opening called these pages damaged at this place: they are no store, or the positions of their
--- log are used up, and it is their map that leaves no room where that is told. The script isn't read.
+-- The opening called these pages damaged at this place: they are no store, and it is their map that
+-- leaves no room where that is told. The script isn't read.
 -- The device is left alone, but where no store is refused at a position of the log; and then too each
 -- stop leaves all that the selected root names.
 pub record IsTurnedAway (place : Place) (pages : Pages) (old new : World)
     (source_old source_new : Stream) : Type 0 where
-  pub why : IsNoStore pages ⊎ IsSpent pages place
+  pub why : IsNoStore pages
   pub over : place ≡ Room → IsOverfull pages
   pub unread : source_new ≡ source_old
   pub alone : ((position : ℕ) → place ≡ LogPlace position → ⊥)
       → IsLeftAlone old new source_old source_new
-  pub spent : IsSpent pages place → IsLeftAlone old new source_old source_new
   pub keeps : (position : ℕ) → place ≡ LogPlace position
       → Passes old.disk new.disk (λ image. Leaves old.disk image ⊎ HasNamed pages image)
 
@@ -91,7 +92,7 @@ pub record IsFoundDamaged (pages : Pages) : Type 0 where
   pub not_overfull : IsOverfull pages → ⊥
 
 -- The cause of a status. A layout is refused by the place at which it is out of form, and only
--- pages that are no store, or whose log's positions are used up, are called damaged.
+-- pages that are no store are called damaged.
 abbrev pub IsRunEnd : World → World → Stream → Stream → Status → Type 0
 IsRunEnd old new source_old source_new (NotAStore place) =
     Told old.disk (IsBrokenAt place)
@@ -108,17 +109,15 @@ pub record IsFaultless (old new : World) (source_old source_new : Stream) : Type
   pub sink : Rises old.sink.faults new.sink.faults → ⊥
   pub device : Rises old.faults new.faults → ⊥
 
-pub record IsScriptRun (status : Status) (old new : World) (source_old source_new : Stream)
-    : Type 0 where
+pub record IsScriptRun (manner : Manner) (status : Status) (old new : World)
+    (source_old source_new : Stream) : Type 0 where
   -- Over a store of these tables: a run of the machine from these tables with nothing open.
   pub run : (size : StoreSize) (tables : Tables)
       → Told old.disk (λ pages. OpensTo pages size tables
-      → IsRunFrom (IsAtRest size tables) status old new source_old.bytes source_new.bytes)
-  -- Where nothing fails and the positions of the store's log are not used up, the script is run to
-  -- its end, or memory ran out.
+      → IsRunFrom manner (IsAtRest size tables) status old new source_old.bytes source_new.bytes)
+  -- Where nothing fails, the script is run to its end, or memory ran out.
   pub complete : (size : StoreSize) (tables : Tables)
       → Told old.disk (λ pages. OpensTo pages size tables
-      → ((place : Place) → IsSpent pages place → ⊥)
       → (script : List ℕ) → source_old.bytes ≡ Some script → length script < script_limit
       → IsFaultless old new source_old source_new
       → (status ≡ Ok) ⊎ (status ≡ NoMemory))
@@ -131,6 +130,8 @@ pub record IsScriptRun (status : Status) (old new : World) (source_old source_ne
   -- Pages that spell no tables.
   pub no_tables : Told old.disk (λ pages. (HasTables pages → ⊥)
       → IsRefusedSomewhere status old new source_old source_new)
+  -- A log whose positions are used up.
+  pub spent : Told old.disk (λ pages. IsSpent pages → IsLeftAlone old new source_old source_new)
   pub cause : IsRunEnd old new source_old source_new status
   -- Whatever the device tells.
   pub taken : IsTaken status source_old.bytes source_new.bytes
@@ -154,14 +155,12 @@ pub record IsTrial (number count : ℕ) (status : Status) (old new : World) : Ty
   pub replies : List ℕ
   pub kept : sink_new.bytes ≡ Some replies
   pub ran : Status
-  pub runs : IsScriptRun ran (with_sink old sink_old) (with_sink new sink_new)
+  pub runs : IsScriptRun (told_by plainly) ran (with_sink old sink_old) (with_sink new sink_new)
       source_old source_new
   pub tells : TellsTrial ran replies status old.sink new.sink
-  -- Over a store of which the positions of the log are not used up, where nothing fails, all is run
-  -- and counted, or memory ran out.
+  -- Over a store where nothing fails, all is run and counted, or memory ran out.
   pub complete : (size : StoreSize) (tables : Tables)
       → Told old.disk (λ pages. OpensTo pages size tables
-      → ((place : Place) → IsSpent pages place → ⊥)
       → (Rises old.sink.faults new.sink.faults → ⊥) → (Rises old.faults new.faults → ⊥)
       → (status ≡ Ok) ⊎ (status ≡ NoMemory))
 
@@ -180,7 +179,9 @@ IsUnread words status = ⊥
 
 pub data IsProgram (words : List (List ℕ)) (status : Status) (old new : World)
     (source_old source_new : Stream) : Type 0 where
-  runs : AreRun words → IsScriptRun status old new source_old source_new
+  runs : AreOnFile Run words → IsScriptRun (told_by plainly) status old new source_old source_new
+      → IsProgram words status old new source_old source_new
+  talks : AreOnFile Talk words → IsScriptRun (told_by talking) status old new source_old source_new
       → IsProgram words status old new source_old source_new
   formats : {slots log_pages : ℕ} → AreFormat words slots log_pages
       → IsFormat slots log_pages status old new

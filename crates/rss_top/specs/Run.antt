@@ -4,15 +4,15 @@ use Rattle.rss_base.specs.DiskRule.{Disk, Pages, Told, Leaves, Passes}
 use Rattle.rss_base.specs.Streams.{Stream, Gives, IsAllOf, Takes}
 use Rattle.rss_base.specs.declared.place.Place.{Place}
 use Rattle.rss_lines.specs.Lines.{line_end, script_limit}
-use Rattle.rss_model.specs.ReplyText.{damaged_line}
+use Rattle.rss_model.specs.Machine.{State}
 use Rattle.rss_model.specs.Runs.{Run}
 use Rattle.rss_model.specs.Serial.{serial, RunsSerially}
 use Rattle.rss_model.specs.Script.{joined, IsUnbroken, Splits, AreLines}
-use Rattle.rss_model.specs.Plays.{Scene, Made, nothing, both_made, LineStep, Play}
+use Rattle.rss_model.specs.Plays.{Made, nothing, both_made}
 use Rattle.rss_stored.specs.LogLaws.{IsRested}
 use Rattle.rss_stored.specs.Store.{Stored, IsStore, OpensTo, OpensIn, OpensToEither, HoldsState}
 use Rattle.rss_store.specs.Opening.{IsSpent}
-use Rattle.rss_top.specs.Says.{Says}
+use Rattle.rss_top.specs.Manners.{Stand, Manner, first_stand}
 use Rattle.rss_top.specs.declared.status.Status.{Status}
 use Rattle.rss_top.specs.declared.status.Status.TheVariants.{Ok, ReadFault, TooLong, WriteFault, DeviceFault, Damaged, NoMemory}
 
@@ -26,39 +26,39 @@ pub record World : Type 1 where
   pub faults : ℕ
   pub sink : Stream
 
--- where a run stands: its scene, and the moment of the device
-pub record Point : Type 0 where
-  pub scene : Scene
+-- where a run stands, and the moment of the device
+pub record Point (manner : Manner) : Type 0 where
+  pub stand : Stand manner.Memory
   pub moment : ℕ
 
-abbrev pub point_now : Scene → Disk → Point
-point_now scene disk = record { scene = scene; moment = disk.moment }
+abbrev pub point_now : (manner : Manner) → Stand manner.Memory → Disk → Point manner
+point_now manner stand disk = record { stand = stand; moment = disk.moment }
 
 -- where a run begins, with what the source and the sink then tell
-pub record Beginning : Type 0 where
-  pub point : Point
+pub record Beginning (manner : Manner) : Type 0 where
+  pub point : Point manner
   pub left : Option (List ℕ)
   pub written : Option (List ℕ)
 
 -- ---- the lines of a run
 
--- the pages open to a scene's committed tables
-abbrev pub OpensAt : Scene → Pages → Type 0
-OpensAt scene pages = OpensTo pages scene.state.size scene.state.base
+-- the pages open to a state's committed tables
+abbrev pub OpensAt : State → Pages → Type 0
+OpensAt state pages = OpensTo pages state.size state.base
 
--- and have the overflow pages that its state counts, where it is as the last checkpoint left it
-abbrev pub HoldsAt : Scene → Pages → Type 0
-HoldsAt scene pages = HoldsState pages scene.state
+-- and have the overflow pages that it counts, where it is as the last checkpoint left it
+abbrev pub HoldsAt : State → Pages → Type 0
+HoldsAt state pages = HoldsState pages state
 
--- They open to a scene's committed tables, and its state is that in which they are opened: at rest,
--- with their overflow pages, and with the positions of their log.
-pub record BeginsAt (scene : Scene) (pages : Pages) : Type 0 where
-  pub opens : OpensAt scene pages
-  pub begins : OpensIn pages scene.state.size scene.state.base scene.state
+-- They open to a state's committed tables, and it is that in which they are opened: at rest, with
+-- their overflow pages, and with the positions of their log.
+pub record BeginsAt (state : State) (pages : Pages) : Type 0 where
+  pub opens : OpensAt state pages
+  pub begins : OpensIn pages state.size state.base state
 
--- they open to the committed tables of one of two scenes
-abbrev pub OpensAtEither : Scene → Scene → Pages → Type 0
-OpensAtEither old new = OpensToEither old.state.size old.state.base new.state.base
+-- they open to the committed tables of one of two states
+abbrev pub OpensAtEither : State → State → Pages → Type 0
+OpensAtEither old new = OpensToEither old.size old.base new.base
 
 -- each stop at a moment leaves pages that have P
 abbrev pub ImagesAt : ℕ → Disk → (Pages → Type 0) → Type 0
@@ -75,77 +75,85 @@ pub record Window (disk : Disk) (from until : ℕ) (P : Pages → Type 0) : Type
 -- One line of a run. At its moments the pages open to the committed tables before or after it. At its
 -- end they open to those after it alone; and where no change was made since the last checkpoint, and
 -- none undone, the state counts their overflow pages.
-pub record LineTurn (disk : Disk) (from : Point) (line : List ℕ) (made : Made) (until : Point)
-    : Type 0 where
-  pub step : LineStep from.scene line made until.scene
-  pub moments : Window disk from.moment until.moment (OpensAtEither from.scene until.scene)
-  pub after : ImagesAt until.moment disk (HoldsAt until.scene)
+pub record LineTurn {manner : Manner} (disk : Disk) (from : Point manner) (line : List ℕ)
+    (made : Made) (until : Point manner) : Type 0 where
+  pub move : manner.Move from.stand line made until.stand
+  pub moments : Window disk from.moment until.moment
+      (OpensAtEither from.stand.state until.stand.state)
+  pub after : ImagesAt until.moment disk (HoldsAt until.stand.state)
 
 -- a run over lines
-pub data Played (disk : Disk) (first : Point) : List (List ℕ) → Made → Point → Type 0 where
+pub data Played {manner : Manner} (disk : Disk) (first : Point manner)
+    : List (List ℕ) → Made → Point manner → Type 0 where
   none : Played disk first [] nothing first
-  more : {lines : List (List ℕ)} {made : Made} {from : Point}
-      {line : List ℕ} {said : Made} {until : Point}
+  more : {lines : List (List ℕ)} {made : Made} {from : Point manner}
+      {line : List ℕ} {said : Made} {until : Point manner}
       → Played disk first lines made from → LineTurn disk from line said until
       → Played disk first (lines ++ line ∷ []) (both_made made said) until
 
 -- The run so far: the bytes given are the lines that were run, and then what is left of the next.
-pub record Story (begin : Beginning) (now : World) (scene : Scene) (given left : List ℕ)
-    : Type 0 where
+pub record Story {manner : Manner} (begin : Beginning manner) (now : World)
+    (stand : Stand manner.Memory) (given left : List ℕ) : Type 0 where
   pub lines : List (List ℕ)
   pub made : Made
-  pub played : Played now.disk begin.point lines made (point_now scene now.disk)
+  pub played : Played now.disk begin.point lines made (point_now manner stand now.disk)
   pub begun : begin.point.moment ≤ now.disk.moment
   pub splits : Splits given lines left
   pub takes : Takes begin.written made.text now.sink.bytes
-  pub opens : ImagesNow now.disk (HoldsAt scene)
+  pub opens : ImagesNow now.disk (HoldsAt stand.state)
 
 -- ---- how a run ends
 
 -- over all the lines of a script, as a run of the machine and the play of the lines
-pub record Whole (begin : Beginning) (now : World) (given : List ℕ) : Type 0 where
+pub record Whole {manner : Manner} (begin : Beginning manner) (now : World) (given : List ℕ)
+    : Type 0 where
   pub lines : List (List ℕ)
   pub made : Made
-  pub last : Scene
-  pub run : Run begin.point.scene.state made.turns last.state
-  pub play : Play begin.point.scene lines made last
-  pub played : Played now.disk begin.point lines made (point_now last now.disk)
+  pub last : Stand manner.Memory
+  pub run : Run begin.point.stand.state made.turns last.state
+  pub play : manner.Plays begin.point.stand lines made last
+  pub played : Played now.disk begin.point lines made (point_now manner last now.disk)
   pub are_lines : AreLines given lines
   pub takes : Takes begin.written made.text now.sink.bytes
-  pub opens : ImagesNow now.disk (HoldsAt last)
+  pub opens : ImagesNow now.disk (HoldsAt last.state)
 
 -- between two lines
-pub record Halted (begin : Beginning) (now : World) (given : List ℕ) : Type 0 where
-  pub scene : Scene
+pub record Halted {manner : Manner} (begin : Beginning manner) (now : World) (given : List ℕ)
+    : Type 0 where
+  pub stand : Stand manner.Memory
   pub left : List ℕ
-  pub story : Story begin now scene given left
+  pub story : Story begin now stand given left
 
--- The device failed within the line. Nothing is written of its reply, and a stop leaves the
--- committed tables before or after the line, at each of its moments and at the end.
-pub record FailedInLine (disk : Disk) (from : Point) (line said : List ℕ) : Type 0 where
+-- The device failed within the line. Nothing is written of it, and a stop leaves the committed tables
+-- before or after the line, at each of its moments and at the end.
+pub record FailedInLine {manner : Manner} (disk : Disk) (from : Point manner)
+    (line said : List ℕ) : Type 0 where
   pub made : Made
-  pub next : Scene
-  pub step : LineStep from.scene line made next
-  pub moments : Window disk from.moment disk.moment (OpensAtEither from.scene next)
-  pub opens : ImagesNow disk (OpensAtEither from.scene next)
+  pub next : Stand manner.Memory
+  pub move : manner.Move from.stand line made next
+  pub moments : Window disk from.moment disk.moment (OpensAtEither from.stand.state next.state)
+  pub opens : ImagesNow disk (OpensAtEither from.stand.state next.state)
   pub silent : said ≡ []
 
--- The sink failed after the line was run, and has the front of its reply.
-pub record FailedInReply (disk : Disk) (from : Point) (line said : List ℕ) : Type 0 where
+-- The sink failed after the line was run, and has the front of what is written of it.
+pub record FailedInReply {manner : Manner} (disk : Disk) (from : Point manner)
+    (line said : List ℕ) : Type 0 where
   pub made : Made
-  pub next : Scene
-  pub turn : LineTurn disk from line made (point_now next disk)
+  pub next : Stand manner.Memory
+  pub turn : LineTurn disk from line made (point_now manner next disk)
   pub unsaid : List ℕ
   pub reply : made.text ≡ said ++ unsaid
 
--- Memory ran out in the line, which has changed no table. Nothing is written of its reply.
-pub record LackedMemory (disk : Disk) (from : Point) (said : List ℕ) : Type 0 where
-  pub moments : Window disk from.moment disk.moment (OpensAt from.scene)
-  pub opens : ImagesNow disk (OpensAt from.scene)
+-- Memory ran out in the line, which has changed no table. Nothing is written of it.
+pub record LackedMemory {manner : Manner} (disk : Disk) (from : Point manner) (said : List ℕ)
+    : Type 0 where
+  pub moments : Window disk from.moment disk.moment (OpensAt from.stand.state)
+  pub opens : ImagesNow disk (OpensAt from.stand.state)
   pub silent : said ≡ []
 
 -- within a line, by the status
-abbrev pub IsStoppedBy : Status → Disk → Point → List ℕ → List ℕ → Type 0
+abbrev pub IsStoppedBy : {manner : Manner} → Status → Disk → Point manner → List ℕ → List ℕ
+    → Type 0
 IsStoppedBy DeviceFault disk from line said = FailedInLine disk from line said
 IsStoppedBy WriteFault disk from line said = FailedInReply disk from line said
 IsStoppedBy NoMemory disk from line said = LackedMemory disk from said
@@ -160,13 +168,13 @@ abbrev pub EndsLine : Type 0 → List ℕ → Type 0
 EndsLine over [] = over
 EndsLine over (b ∷ rest) = b ≡ line_end
 
--- A run up to the line within which it ended, with what is said of its reply. over: all of the
--- script was given.
-pub record Stopped (status : Status) (begin : Beginning) (now : World)
+-- A run up to the line within which it ended, with what was written of it. over: all of the script
+-- was given.
+pub record Stopped {manner : Manner} (status : Status) (begin : Beginning manner) (now : World)
     (given : List ℕ) (over : Type 0) : Type 0 where
   pub lines : List (List ℕ)
   pub made : Made
-  pub from : Point
+  pub from : Point manner
   pub line : List ℕ
   pub rest : List ℕ
   pub said : List ℕ
@@ -200,8 +208,8 @@ pub record IsTaken (status : Status) (left_old left_new : Option (List ℕ)) : T
   pub all : status ≡ Ok → IsAllOf left_old given
 
 -- How a run ended: the bytes given, and what was run and written. None ends by damage.
-pub record Ended (status : Status) (begin : Beginning) (now : World) (left : Option (List ℕ))
-    : Type 0 where
+pub record Ended {manner : Manner} (status : Status) (begin : Beginning manner) (now : World)
+    (left : Option (List ℕ)) : Type 0 where
   pub taken : IsTaken status begin.left left
   pub whole : status ≡ Ok → Whole begin now taken.given
   pub halted : IsHalt status → Halted begin now taken.given
@@ -211,55 +219,49 @@ pub record Ended (status : Status) (begin : Beginning) (now : World) (left : Opt
 
 -- What was run commits what its transactions commit one after another, in the order of their ends,
 -- with the replies that they got.
-abbrev pub CommitsSerially : Beginning → Made → Scene → Type 0
+abbrev pub CommitsSerially : {manner : Manner} → Beginning manner → Made → State → Type 0
 CommitsSerially begin made last =
-    RunsSerially begin.point.scene.state (serial made.turns) last.state.base
+    RunsSerially begin.point.stand.state (serial made.turns) last.base
 
 -- how a run ended, and that it was serial up to there
-pub record EndedSerially (status : Status) (begin : Beginning) (now : World) (left : Option (List ℕ))
-    : Type 0 where
+pub record EndedSerially {manner : Manner} (status : Status) (begin : Beginning manner)
+    (now : World) (left : Option (List ℕ)) : Type 0 where
   pub ended : Ended status begin now left
-  pub whole : (is : status ≡ Ok) → CommitsSerially begin (ended.whole is).made (ended.whole is).last
+  pub whole : (is : status ≡ Ok)
+      → CommitsSerially begin (ended.whole is).made (ended.whole is).last.state
   pub halted : (is : IsHalt status)
-      → CommitsSerially begin (ended.halted is).story.made (ended.halted is).scene
+      → CommitsSerially begin (ended.halted is).story.made (ended.halted is).stand.state
   pub stopped : (is : IsStop status)
-      → CommitsSerially begin (ended.stopped is).made (ended.stopped is).from.scene
+      → CommitsSerially begin (ended.stopped is).made (ended.stopped is).from.stand.state
 
 -- the opening ended the run
 abbrev pub IsFailedOpening : Status → Type 0
 IsFailedOpening status = (status ≡ DeviceFault) ⊎ (status ≡ NoMemory)
 
 -- What a stop within the opening of a run may leave: what it could leave before, or pages that open to
--- the tables of the first scene.
-abbrev pub MayLeave : Disk → Scene → Pages → Type 0
+-- the tables of the first state.
+abbrev pub MayLeave : Disk → State → Pages → Type 0
 MayLeave before first image = Leaves before image ⊎ OpensAt first image
 
--- One run over a store, from its first scene.
-pub data IsRun (status : Status) (first : Scene) (old new : World)
+-- One run over a store, from its first state.
+pub data IsRun (manner : Manner) (status : Status) (first : State) (old new : World)
     (left_old left_new : Option (List ℕ)) : Type 0 where
   -- the opening failed: nothing of the script was read, and no reply was written
   unopened : IsFailedOpening status → Passes old.disk new.disk (MayLeave old.disk first)
       → left_new ≡ left_old → new.sink.bytes ≡ old.sink.bytes
-      → IsRun status first old new left_old left_new
-  -- the positions of its log are used up, and it was refused: nothing of the script was read, and
-  -- nothing was written to the device
-  refused : {place : Place} → Told old.disk (λ pages. IsSpent pages place)
-      → Says (Damaged place) (damaged_line place) status old.sink new.sink
-      → Passes old.disk new.disk (Leaves old.disk) → new.writes ≡ old.writes
-      → left_new ≡ left_old
-      → IsRun status first old new left_old left_new
-  -- The store was open from this moment on, in the first scene's state, and the script was run. The
-  -- positions of its log are not used up. One that was at rest was only read by then.
-  opened : (at : ℕ) → Told old.disk (λ pages. (place : Place) → IsSpent pages place → ⊥)
+      → IsRun manner status first old new left_old left_new
+  -- The store was open from this moment on, in the first state, and the script was run. The positions
+  -- of its log are not used up. One that was at rest was only read by then.
+  opened : (at : ℕ) → Told old.disk (λ pages. IsSpent pages → ⊥)
       → Window new.disk old.disk.moment at (MayLeave old.disk first)
       → Told old.disk (λ pages. (stored : Stored) → IsStore pages stored → IsRested stored
       → Window new.disk old.disk.moment at (Leaves old.disk))
       → ImagesAt at new.disk (BeginsAt first)
-      → EndedSerially status
+      → EndedSerially {manner = manner} status
       (record {
-        point = record { scene = first; moment = at };
+        point = record { stand = first_stand manner first; moment = at };
         left = left_old;
         written = old.sink.bytes;
       })
       new left_new
-      → IsRun status first old new left_old left_new
+      → IsRun manner status first old new left_old left_new

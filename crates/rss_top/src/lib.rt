@@ -3,15 +3,19 @@
 #![tactic(auto)]
 
 mod counting;
+mod driving;
 mod ending;
 mod generated;
 mod generating;
+mod heard;
+mod hearing;
 mod line;
 mod making;
-mod reading;
 mod running;
 mod script;
+mod scripted;
 mod status;
+mod telling;
 mod trial;
 mod unread;
 mod writing;

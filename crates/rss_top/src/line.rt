@@ -1,90 +1,47 @@
 // One line of a script.
-ghost use Rattle.std.specs.Prelude.{◌≡◌, ◌<◌, ◌≤◌, true, [], vec_capacity, IsSome, OnOk};
+ghost use Rattle.std.specs.Prelude.{◌<◌};
 ghost use Rattle.rss_stored.specs.Calls.{calls_most};
-ghost use Rattle.rss_model.specs.Defining.{DefinesNames, LocksGranule};
-ghost use Rattle.rss_model.specs.Plays.{bound};
-ghost use Rattle.rss_model.specs.Script.{line_limit};
-ghost use Rattle.rss_top.specs.Lines.{seen_with, IsAsked, RunsCall, RunsLine};
+ghost use Rattle.rss_top.specs.Lines.{seen, seen_with, told_over, RunsLine};
 
 use crate::Status;
-use crate::writing::{make_room, write_answer};
-use rss_base::{Call, CallError, Name, Refusal, Reply, Sink};
-use rss_line::{Line, LineFault, Names, read_line};
+use crate::hearing::hear;
+use crate::telling::{Plain, Teller};
+use crate::writing::write_text;
+use rss_base::Sink;
+use rss_line::Names;
 use rss_stored::Engine;
-use std::alloc::{AllocError, Global};
+use std::alloc::Global;
 
-/// Makes a call. Its answer is a reply or a refusal.
-fn ask<E: Engine>(engine: &mut E, call: &Call) -> Result<Result<Reply, Refusal>, Status>
-    requires up { (E.view engine.old).is_up }
-    requires few { (E.view engine.old).calls < calls_most }
-    requires names { DefinesNames call.now }
-    requires granule { LocksGranule call.now }
-    ensures { IsAsked (E.view engine.old) (E.view engine.new) call.now result }
-{
-    match engine.call(call) {
-        Ok(reply) => Ok(Ok(reply)),
-        Err(CallError::Refused(why)) => Ok(Err(why)),
-        Err(CallError::Device) => Err(Status::DeviceFault),
-        Err(CallError::Damaged(place)) => Err(Status::Damaged(place)),
-        Err(CallError::NoMemory) => Err(Status::NoMemory),
-        Err(CallError::Down) => unreachable!(),
-    }
-}
-
-/// Makes room for a variable, if there is one.
-fn make_place(names: &mut Names, bind: Option<Name>) -> Result<(), AllocError>
-    ensures ok { OnOk result (IsSome bind → 1 ≤ names.new.room) }
-    ensures same { names.new.variables ≡ names.old.variables }
-{
-    if bind.is_some() {
-        names.reserve()
-    } else {
-        Ok(())
-    }
-}
-
-/// Lets the variable stand for what the answer has, if there is a variable, and such an answer.
-fn bind_answer(names: &mut Names, bind: Option<Name>, answer: &Result<Reply, Refusal>)
-    requires { IsSome bind → 1 ≤ names.old.room }
-    ensures { names.new.variables ≡ bound names.old.variables bind answer.now }
-{
-    if let Some(variable) = bind
-        && let Ok(reply) = answer
-    {
-        names.bind(variable, reply);
-    }
-}
-
-/// Makes the call of a line, binds its variable, and then writes its answer.
-fn make_call<E: Engine, K: Sink>(
+/// Runs one line: makes its call, and then writes what is told of it. There is room for that before
+/// the call, so that want of memory changes no table.
+pub fn tell_line<E: Engine, T: Teller, K: Sink>(
     engine: &mut E,
-    bind: Option<Name>,
-    call: &Call,
+    alloc: Global,
     names: &mut Names,
-    reply: &mut Vec<u8>,
+    teller: &mut T,
+    line: &[u8],
+    text: &mut Vec<u8>,
     sink: &mut K,
 ) -> Result<(), Status>
     requires up { (E.view engine.old).is_up }
     requires few { (E.view engine.old).calls < calls_most }
-    requires names { DefinesNames call.now }
-    requires granule { LocksGranule call.now }
-    requires place { IsSome bind → 1 ≤ names.old.room }
-    requires empty { reply.old.items ≡ [] }
-    requires room { line_limit ≤ vec_capacity reply.old }
-    ensures { RunsCall
-        (seen_with names.old.variables (E.view engine.old) (K.view sink.old))
-        (seen_with names.new.variables (E.view engine.new) (K.view sink.new))
-        bind call.now result }
+    ensures { RunsLine
+        (seen (told_over T.telling names.old.variables (T.memory teller.old) (E.view engine.old))
+        (K.view sink.old))
+        (seen (told_over T.telling names.new.variables (T.memory teller.new) (E.view engine.new))
+        (K.view sink.new))
+        line.now result }
 {
-    let answer = ask(engine, call)?;
-    bind_answer(names, bind, &answer);
-    write_answer(&answer, reply, sink)?;
+    let Ok(()) = teller.prepare(line, text) else {
+        return Err(Status::NoMemory);
+    };
+    let heard = hear(engine, alloc, names, line)?;
+    teller.tell(line, &heard, text);
+    write_text(text.as_slice(), sink)?;
     Ok(())
 }
 
-/// Runs one line: makes its call, and then writes its reply. The buffer for the reply is made large
-/// enough before the call, and there is room for the line's variable by then, so that want of memory
-/// changes no table.
+/// Runs one line: makes its call, and then writes its reply.
 pub fn line<E: Engine, K: Sink>(
     engine: &mut E,
     alloc: Global,
@@ -100,22 +57,5 @@ pub fn line<E: Engine, K: Sink>(
         (seen_with names.new.variables (E.view engine.new) (K.view sink.new))
         bytes.now result }
 {
-    if make_room(reply).is_err() {
-        return Err(Status::NoMemory);
-    }
-    match read_line(alloc, bytes, names) {
-        Ok(Line::Blank) => Ok(()),
-        Ok(Line::Call { bind, call }) => {
-            let Ok(()) = make_place(names, bind) else {
-                return Err(Status::NoMemory);
-            };
-            make_call(engine, bind, &call, names, reply, sink)?;
-            Ok(())
-        }
-        Err(LineFault::Words) => {
-            write_answer(&Err(Refusal::Words), reply, sink)?;
-            Ok(())
-        }
-        Err(LineFault::NoMemory) => Err(Status::NoMemory),
-    }
+    tell_line(engine, alloc, names, &mut Plain, bytes, reply, sink)
 }

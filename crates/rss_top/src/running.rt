@@ -8,19 +8,21 @@ use crate::Status;
 use crate::generating::write_script;
 use crate::making::make_store;
 use crate::script::run_script;
+use crate::telling::{Plain, Talk};
 use crate::trial::run_trial;
 use crate::unread::unread;
 use rss_base::{Device, Sink, Source};
-use rss_words::{Command, read_command};
+use rss_words::{Command, Task, read_command};
 use std::alloc::{AllocError, Global};
 
 /// Does what the words of the command line ask for, the program's own name first, and hands the
 /// device back. Of the file that they name the device is the pages.
 ///
 /// `run` runs a script over the store of the device. Each line of the script that isn't blank gets
-/// one reply line, which is written before the next line runs. `format` makes the device an empty
-/// store, and writes `ok`. `gen` writes a script, line by line, and touches neither the device nor
-/// the source. `trial` runs that script over the store, and writes how many its replies are.
+/// one reply line, which is written before the next line runs. `talk` does the same, and writes the
+/// line itself before its reply. `format` makes the device an empty store, and writes `ok`. `gen`
+/// writes a script, line by line, and touches neither the device nor the source. `trial` runs that
+/// script over the store, and writes how many its replies are.
 pub fn run<O: Source, K: Sink, D: Device>(
     alloc: Global,
     words: &[String],
@@ -31,10 +33,10 @@ pub fn run<O: Source, K: Sink, D: Device>(
     // Over an honest device that holds a store of these tables: the run is one of the relation
     // machine from these tables with nothing open. At each moment of it a stop leaves a store with
     // the machine's committed tables, and before its first line one of these tables or what a stop
-    // could leave at entry. A device whose layout is out of form is refused, and so is a store whose
-    // log's positions are used up. One that is formatted reads as an empty store, and a stop leaves
-    // nothing else. A script that is generated is written whole, or run and its replies counted,
-    // where nothing fails.
+    // could leave at entry. A device whose layout is out of form is refused, and a store whose log's
+    // positions are used up is left alone. One that is formatted reads as an empty store, and a stop
+    // leaves nothing else. A script that is generated is written whole, or run and its replies
+    // counted, where nothing fails.
     ensures program { IsProgram (map string_bytes words.now) result.0
         (on (D.view device) (K.view sink.old))
         (on (D.view result.1) (K.view sink.new))
@@ -59,7 +61,8 @@ pub fn run<O: Source, K: Sink, D: Device>(
 {
     match read_command(alloc, words) {
         Ok(None) => (Status::Words, device),
-        Ok(Some(Command::Run)) => run_script(alloc, source, sink, device),
+        Ok(Some(Command::OnFile(Task::Run))) => run_script(alloc, Plain, source, sink, device),
+        Ok(Some(Command::OnFile(Task::Talk))) => run_script(alloc, Talk, source, sink, device),
         Ok(Some(Command::Format { slots, log_pages })) => {
             let mut device = device;
             let status = make_store(alloc, &mut device, slots, log_pages, sink);

@@ -1,56 +1,62 @@
 // A script, run over the store of a device.
-ghost use Rattle.std.specs.Prelude.{◌+◌, ◌≤◌};
+ghost use Rattle.std.specs.Prelude.{◌≡◌, ◌+◌, ◌≤◌};
 ghost use Rattle.rss_lines.specs.Lines.{script_limit};
 ghost use Rattle.rss_stored.specs.Calls.{calls_most};
 ghost use Rattle.rss_top.specs.Lines.{seen, on, RunsScript};
 ghost use Rattle.rss_top.specs.Says.{TellsDamage};
+ghost use Rattle.rss_top.specs.Tellings.{told_by};
 ghost use Rattle.rss_top.specs.Programs.{IsScriptRun};
 
 use crate::Status;
-use crate::reading::run_lines;
+use crate::driving::{Driver, drive};
+use crate::scripted::Scripted;
+use crate::telling::Teller;
 use crate::writing::{refuse_damaged, refuse_layout};
 use rss_base::{Device, OpenFault, Sink, Source, Unopened};
 use rss_rsi::{MOST_FRAMES, open};
-use rss_stored::Engine;
 use std::alloc::Global;
 
 /// Runs a script over a store that is open. A store that a line finds damaged is refused.
-fn run_store<O: Source, K: Sink, E: Engine>(
-    store: &mut E,
+fn run_store<O: Source, K: Sink, D: Driver>(
     alloc: Global,
+    driver: &mut D,
     source: &mut O,
     sink: &mut K,
 ) -> Status
-    requires up { (E.view store.old).is_up }
-    requires few { (E.view store.old).calls + script_limit ≤ calls_most }
+    requires up { (D.view driver.old).is_up }
+    requires few { (D.view driver.old).calls + script_limit ≤ calls_most }
     ensures runs { RunsScript
-        (seen (E.view store.old) (K.view sink.old))
-        (seen (E.view store.new) (K.view sink.new))
+        (seen (D.view driver.old) (K.view sink.old))
+        (seen (D.view driver.new) (K.view sink.new))
         (O.view source.old) (O.view source.new) result }
     ensures tells { TellsDamage result (K.view sink.old) (K.view sink.new) }
 {
-    match run_lines(store, alloc, source, sink) {
+    match drive(alloc, driver, source, sink) {
         Status::Damaged(place) => refuse_damaged(alloc, place, sink),
         status => status,
     }
 }
 
-/// Opens the store of a device, runs a script over it, and hands the device back.
-pub fn run_script<O: Source, K: Sink, D: Device>(
+/// Opens the store of a device, runs a script over it, tells what its lines get, and hands the device
+/// back.
+pub fn run_script<O: Source, K: Sink, D: Device, T: Teller + Drop>(
     alloc: Global,
+    teller: T,
     source: &mut O,
     sink: &mut K,
     device: D,
 ) -> (Status, D)
-    ensures { IsScriptRun result.0
+    requires { T.memory teller ≡ T.telling.start }
+    ensures { IsScriptRun (told_by T.telling) result.0
         (on (D.view device) (K.view sink.old))
         (on (D.view result.1) (K.view sink.new))
         (O.view source.old) (O.view source.new) }
 {
     match open(alloc, device, MOST_FRAMES) {
-        Ok(mut store) => {
-            let status = run_store(&mut store, alloc, source, sink);
-            (status, store.into_pages().into_device())
+        Ok(store) => {
+            let mut scripted = Scripted::new(alloc, store, teller);
+            let status = run_store(alloc, &mut scripted, source, sink);
+            (status, scripted.into_engine().into_pages().into_device())
         }
         Err(unopened) => {
             let Unopened { device, fault } = unopened;

@@ -21,9 +21,9 @@ pub enum Status {
     DeviceFault,
     /// The device holds no store: its layout is out of form.
     NotAStore(Place),
-    /// The device holds no store, though its layout is sound; or the positions of its log are used up.
+    /// The device holds no store, though its layout is sound.
     Damaged(Place),
-    /// Memory ran out.
+    /// Memory ran out, or the positions of the store's log are used up.
     NoMemory,
     /// The script is longer than a script may be.
     TooLong,

@@ -10,6 +10,7 @@ use crate::Status;
 use crate::counting::{Tally, count_replies};
 use crate::generated::GeneratedScript;
 use crate::script::run_script;
+use crate::telling::Plain;
 use crate::writing::{end_with, refuse_damaged, refuse_layout};
 use rss_base::{Device, Sink};
 use rss_device::MemSink;
@@ -66,7 +67,7 @@ pub fn run_trial<K: Sink, D: Device>(
 {
     let mut script = GeneratedScript::new(alloc, number, count);
     let mut replies = MemSink::new(alloc);
-    let (ran, device) = run_script(alloc, &mut script, &mut replies, device);
+    let (ran, device) = run_script(alloc, Plain, &mut script, &mut replies, device);
     let status = tell(alloc, ran, replies.bytes(), sink);
     (status, device)
 }

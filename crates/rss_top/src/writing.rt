@@ -1,11 +1,11 @@
 // The lines that are written to the sink.
-ghost use Rattle.std.specs.Prelude.{◌≡◌, ◌≤◌, [], length, vec_capacity, OnOk};
-ghost use Rattle.rss_model.specs.ReplyText.{answer_line, not_a_store_line, damaged_line};
+ghost use Rattle.std.specs.Prelude.{◌≡◌, ◌≤◌, [], vec_capacity, OnOk};
+ghost use Rattle.rss_model.specs.ReplyText.{not_a_store_line, damaged_line};
 ghost use Rattle.rss_top.specs.Says.{Writes, Says};
 
 use crate::Status;
-use rss_base::{Place, Refusal, Reply, Sink, write_all};
-use rss_line::{LINE_LIMIT, say, say_damaged, say_not_a_store};
+use rss_base::{Place, Sink, write_all};
+use rss_line::{LINE_LIMIT, say_damaged, say_not_a_store};
 use std::alloc::{AllocError, Global};
 
 /// Empties the buffer and makes it large enough for any answer's line.
@@ -17,21 +17,11 @@ pub fn make_room(reply: &mut Vec<u8>) -> Result<(), AllocError>
     reply.reserve(LINE_LIMIT)
 }
 
-/// Writes the line of an answer, by the way of an empty buffer that has room for it.
-pub fn write_answer<K: Sink>(
-    answer: &Result<Reply, Refusal>,
-    reply: &mut Vec<u8>,
-    sink: &mut K,
-) -> Result<(), Status>
-    requires empty { reply.old.items ≡ [] }
-    requires room { length (answer_line answer.now) ≤ vec_capacity reply.old }
-    ensures { Writes (answer_line answer.now)
-        (K.view sink.old) (K.view sink.new) result }
+/// Writes a text.
+pub fn write_text<K: Sink>(text: &[u8], sink: &mut K) -> Result<(), Status>
+    ensures { Writes text.now (K.view sink.old) (K.view sink.new) result }
 {
-    let Ok(()) = say(answer, reply) else {
-        unreachable!()
-    };
-    match write_all(sink, reply.as_slice()) {
+    match write_all(sink, text) {
         Ok(()) => Ok(()),
         Err(_) => Err(Status::WriteFault),
     }

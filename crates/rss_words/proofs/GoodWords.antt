@@ -5,9 +5,9 @@ use Rattle.std.proofs.lemmas.Bool.Decides.{nat_tests}
 use Rattle.std.proofs.lemmas.Fmt.{decimal_injective}
 use Rattle.std.proofs.lemmas.List.{get_or-map}
 use Rattle.rss_model.specs.Generator.{most_employees}
-use Rattle.rss_words.specs.Words.{IsPlain, IsNumber, IsCount, AskFor, IsCommand}
+use Rattle.rss_words.specs.Words.{IsPlain, IsTask, IsNumber, IsCount, AskFor, IsCommand}
 use Rattle.rss_words.specs.declared.command.Command.{Command}
-use Rattle.rss_words.specs.declared.command.Command.TheVariants.{Run, Format, Generate, Trial}
+use Rattle.rss_words.specs.declared.command.Command.TheVariants.{OnFile, Format, Generate, Trial}
 
 -- a word, by what is read of it
 pub item : {S : Type 0} (f : S → List ℕ) (words : List S) (k : ℕ) (x : S) (text : List ℕ) → k < length words → x ≡ get_or words k x → text ≡ f x → slice_index_or (map f words) k [] ≡ text
@@ -44,13 +44,13 @@ five (a ∷ b ∷ c ∷ d ∷ e ∷ g ∷ words) many = absurd (omega arith)
 
 -- ---- which command, by how many words
 
-pub run_good : (words : List (List ℕ)) → length words ≡ 3 → slice_index_or words 1 [] ≡ codes "run" → IsPlain (slice_index_or words 2 []) → IsCommand words
-run_good words many name plain = record {
-  command = Run;
+pub on_file_good : (words : List (List ℕ)) → length words ≡ 3 → IsTask (slice_index_or words 1 []) → IsPlain (slice_index_or words 2 []) → IsCommand words
+on_file_good words many is plain = record {
+  command = OnFile is.task;
   asked = record {
     program = slice_index_or words 0 [];
     file = slice_index_or words 2 [];
-    spelled = three words many ∙ ap (λ (w : List ℕ). slice_index_or words 0 [] ∷ w ∷ slice_index_or words 2 [] ∷ []) name;
+    spelled = three words many ∙ ap (λ (w : List ℕ). slice_index_or words 0 [] ∷ w ∷ slice_index_or words 2 [] ∷ []) is.spelled;
     plain = plain;
   };
 }
@@ -103,11 +103,14 @@ trial_good words many name plain number count = record {
   };
 }
 
-pub good_run : (words : List (List ℕ)) → length words ≡ 3 → IsCommand words → IsPlain (slice_index_or words 2 [])
-good_run words many good = asks good.command good.asked
+pub good_on_file : (words : List (List ℕ)) → length words ≡ 3 → IsCommand words → IsTask (slice_index_or words 1 []) × IsPlain (slice_index_or words 2 [])
+good_on_file words many good = asks good.command good.asked
   where
-    asks : (command : Command) → AskFor words command → IsPlain (slice_index_or words 2 [])
-    asks Run are = subst IsPlain (sym (ap (λ (w : List (List ℕ)). slice_index_or w 2 []) are.spelled)) are.plain
+    asks : (command : Command) → AskFor words command → IsTask (slice_index_or words 1 []) × IsPlain (slice_index_or words 2 [])
+    asks (OnFile task) are = (
+      record { task = task; spelled = ap (λ (w : List (List ℕ)). slice_index_or w 1 []) are.spelled },
+      subst IsPlain (sym (ap (λ (w : List (List ℕ)). slice_index_or w 2 []) are.spelled)) are.plain,
+    )
     asks (Format slots log_pages) are = absurd (distinct 3 5 refl (sym many ∙ ap length are.spelled))
     asks (Generate number count) are = absurd (distinct 3 4 refl (sym many ∙ ap length are.spelled))
     asks (Trial number count) are = absurd (distinct 3 5 refl (sym many ∙ ap length are.spelled))
@@ -116,7 +119,7 @@ pub good_generate : (words : List (List ℕ)) → length words ≡ 4 → IsComma
 good_generate words many good = asks good.command good.asked
   where
     asks : (command : Command) → AskFor words command → IsCount (slice_index_or words 3 [])
-    asks Run are = absurd (distinct 4 3 refl (sym many ∙ ap length are.spelled))
+    asks (OnFile _) are = absurd (distinct 4 3 refl (sym many ∙ ap length are.spelled))
     asks (Format slots log_pages) are = absurd (distinct 4 5 refl (sym many ∙ ap length are.spelled))
     asks (Generate number count) are = record {
       n = count;
@@ -134,7 +137,7 @@ pub good_format : (words : List (List ℕ)) → length words ≡ 5 → slice_ind
 good_format words many name good = asks good.command good.asked
   where
     asks : (command : Command) → AskFor words command → IsNumber (slice_index_or words 4 [])
-    asks Run are = absurd (distinct 5 3 refl (sym many ∙ ap length are.spelled))
+    asks (OnFile _) are = absurd (distinct 5 3 refl (sym many ∙ ap length are.spelled))
     asks (Generate number count) are = absurd (distinct 5 4 refl (sym many ∙ ap length are.spelled))
     asks (Format slots log_pages) are = record {
       n = log_pages;
@@ -147,7 +150,7 @@ pub good_trial : (words : List (List ℕ)) → length words ≡ 5 → slice_inde
 good_trial words many name good = asks good.command good.asked
   where
     asks : (command : Command) → AskFor words command → IsCount (slice_index_or words 4 [])
-    asks Run are = absurd (distinct 5 3 refl (sym many ∙ ap length are.spelled))
+    asks (OnFile _) are = absurd (distinct 5 3 refl (sym many ∙ ap length are.spelled))
     asks (Generate number count) are = absurd (distinct 5 4 refl (sym many ∙ ap length are.spelled))
     asks (Format slots log_pages) are = absurd (distinct 116 102 refl (sym (ap (λ (w : List ℕ). slice_index_or w 0 0) name) ∙ ap first_byte are.spelled))
     asks (Trial number count) are = record {

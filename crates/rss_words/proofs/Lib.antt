@@ -1,3 +1,4 @@
+pub mod Tasks
 pub mod GoodWords
 pub mod Named
 pub mod Taken

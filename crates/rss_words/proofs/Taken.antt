@@ -9,9 +9,11 @@ use Rattle.clap.specs.declared.parser.matches.ArgMatches.{ArgMatches}
 use Rattle.std.proofs.lemmas.Fmt.{decimal_by_steps}
 use Rattle.std.proofs.lemmas.Option.{none-some, same_Some}
 use Rattle.clap.proofs.OnLiterals.{clap_on_literals}
-use Rattle.rss_words.specs.Words.{IsPlain, IsCommand, AskFor}
+use Rattle.rss_words.specs.Words.{IsPlain, task_name, IsTask, IsCommand, AskFor}
 use Rattle.rss_words.specs.declared.command.Command.{Command}
-use Rattle.rss_words.specs.declared.command.Command.TheVariants.{Run, Format, Generate, Trial}
+use Rattle.rss_words.specs.declared.command.Command.TheVariants.{OnFile, Format, Generate, Trial}
+use Rattle.rss_words.specs.declared.task.Task.{Task}
+use Rattle.rss_words.specs.declared.task.Task.TheVariants.{Run, Talk}
 use Rattle.rss_words.proofs.GoodWords.{distinct}
 use Rattle.rss_words.specs.Rows.{rss, Has, Finds, Tells}
 use Rattle.rss_model.specs.Generator.{most_employees}
@@ -61,18 +63,22 @@ name_in = option_map (λ p. p.0)
 abbrev word_in : Text → Option (Text × List Row) → Option (Option Text)
 word_in id = option_map (λ p. first_of id p.1)
 
-abbrev run_words : Text → Text → List Text
-run_words program file = program ∷ codes "run" ∷ file ∷ []
+abbrev on_file_words : Task → Text → Text → List Text
+on_file_words task program file = program ∷ task_name task ∷ file ∷ []
 
-run_taken : (program file : Text) → IsValue file → takes rss (run_words program file) ≡ true
+on_file_taken : (task : Task) (program file : Text) → IsValue file → takes rss (on_file_words task program file) ≡ true
 unfolding clap_on_literals
-run_taken program file value =
+on_file_taken Run program file value =
+    let dashes = value.dashes in let long = value.long in let short = value.short in
+    rw (dashes, long, short) refl
+on_file_taken Talk program file value =
     let dashes = value.dashes in let long = value.long in let short = value.short in
     rw (dashes, long, short) refl
 
-run_named : (program file : Text) → name_in (subcommand_of rss (run_words program file)) ≡ Some (codes "run")
+on_file_named : (task : Task) (program file : Text) → name_in (subcommand_of rss (on_file_words task program file)) ≡ Some (task_name task)
 unfolding clap_on_literals
-run_named program file = refl
+on_file_named Run program file = refl
+on_file_named Talk program file = refl
 
 abbrev generate_words : Text → Text → Text → List Text
 generate_words program number count = program ∷ codes "gen" ∷ number ∷ count ∷ []
@@ -184,7 +190,7 @@ pub good_taken : (words : List Text) → IsCommand words → takes rss words ≡
 good_taken words good = asks good.command good.asked
   where
     asks : (command : Command) → AskFor words command → takes rss words ≡ true
-    asks Run are = ap (takes rss) are.spelled ∙ run_taken are.program are.file (plain_value are.file are.plain)
+    asks (OnFile task) are = ap (takes rss) are.spelled ∙ on_file_taken task are.program are.file (plain_value are.file are.plain)
     asks (Format slots log_pages) are = ap (takes rss) are.spelled
         ∙ format_taken are.program are.file (decimal slots) (decimal log_pages) (plain_value are.file are.plain) (decimal_value slots are.slots_fit) (decimal_value log_pages are.log_pages_fit)
     asks (Generate number count) are = ap (takes rss) are.spelled
@@ -193,10 +199,10 @@ good_taken words good = asks good.command good.asked
         ∙ trial_taken are.program are.file (decimal number) (decimal count) (plain_value are.file are.plain) (decimal_value number are.number_fits) (decimal_value count (omega (arith, are.few)))
 
 pub good_found : (words : List Text) (command : Command) → AskFor words command → (matches : ArgMatches) → subcommand_rows_of matches ≡ subcommand_of rss words → Finds matches command
-good_found words Run are matches is =
+good_found words (OnFile task) are matches is =
     let entered = subcommand_of rss words in
-    let here = entered_by entered (codes "run") (ap (λ (w : List Text). name_in (subcommand_of rss w)) are.spelled ∙ run_named are.program are.file) in record {
-      name = codes "run";
+    let here = entered_by entered (task_name task) (ap (λ (w : List Text). name_in (subcommand_of rss w)) are.spelled ∙ on_file_named task are.program are.file) in record {
+      name = task_name task;
       rows = here.rows;
       found = is ∙ here.found;
       tells = refl;
@@ -290,11 +296,32 @@ not_none matches command finds is = none-some finds.name (is ∙ (named matches 
 abbrev first_byte : Text → ℕ
 first_byte word = slice_index_or word 0 0
 
-pub as_run : (name : Text) (rows : List Row) (command : Command) → name ≡ codes "run" → Tells name rows command → Run ≡ command
-as_run name rows Run is tells = refl
-as_run name rows (Format slots log_pages) is tells = absurd (distinct 114 102 refl (ap first_byte (sym is ∙ tells.0)))
-as_run name rows (Generate number count) is tells = absurd (distinct 114 103 refl (ap first_byte (sym is ∙ tells.0)))
-as_run name rows (Trial number count) is tells = absurd (distinct 114 116 refl (ap first_byte (sym is ∙ tells.0)))
+abbrev second_byte : Text → ℕ
+second_byte word = slice_index_or word 1 0
+
+not_format : (task : Task) → task_name task ≡ codes "format" → ⊥
+not_format Run is = distinct 114 102 refl (ap first_byte is)
+not_format Talk is = distinct 116 102 refl (ap first_byte is)
+
+not_gen : (task : Task) → task_name task ≡ codes "gen" → ⊥
+not_gen Run is = distinct 114 103 refl (ap first_byte is)
+not_gen Talk is = distinct 116 103 refl (ap first_byte is)
+
+not_trial : (task : Task) → task_name task ≡ codes "trial" → ⊥
+not_trial Run is = distinct 114 116 refl (ap first_byte is)
+not_trial Talk is = distinct 97 114 refl (ap second_byte is)
+
+same_task : (task other : Task) → task_name task ≡ task_name other → task ≡ other
+same_task Run Run is = refl
+same_task Run Talk is = absurd (distinct 114 116 refl (ap first_byte is))
+same_task Talk Run is = absurd (distinct 116 114 refl (ap first_byte is))
+same_task Talk Talk is = refl
+
+pub as_task : (name : Text) (rows : List Row) (command : Command) (task : Task) → name ≡ task_name task → Tells name rows command → OnFile task ≡ command
+as_task name rows (OnFile other) task is tells = ap OnFile (same_task task other (sym is ∙ tells))
+as_task name rows (Format slots log_pages) task is tells = absurd (not_format task (sym is ∙ tells.0))
+as_task name rows (Generate number count) task is tells = absurd (not_gen task (sym is ∙ tells.0))
+as_task name rows (Trial number count) task is tells = absurd (not_trial task (sym is ∙ tells.0))
 
 pub record AreSizes (rows : List Row) (command : Command) : Type 0 where
   pub slots : ℕ
@@ -304,7 +331,7 @@ pub record AreSizes (rows : List Row) (command : Command) : Type 0 where
   pub second : Has rows (codes "G") log_pages
 
 pub as_format : (name : Text) (rows : List Row) (command : Command) → name ≡ codes "format" → Tells name rows command → AreSizes rows command
-as_format name rows Run is tells = absurd (distinct 102 114 refl (ap first_byte (sym is ∙ tells)))
+as_format name rows (OnFile task) is tells = absurd (not_format task (sym tells ∙ is))
 as_format name rows (Format slots log_pages) is tells = record { slots = slots; log_pages = log_pages; is = refl; first = tells.1; second = tells.2 }
 as_format name rows (Generate number count) is tells = absurd (distinct 102 103 refl (ap first_byte (sym is ∙ tells.0)))
 as_format name rows (Trial number count) is tells = absurd (distinct 102 116 refl (ap first_byte (sym is ∙ tells.0)))
@@ -318,20 +345,20 @@ pub record AreNumbers (make : ℕ → ℕ → Command) (rows : List Row) (comman
   pub few : count ≤ most_employees
 
 pub as_generate : (name : Text) (rows : List Row) (command : Command) → name ≡ codes "gen" → Tells name rows command → AreNumbers Generate rows command
-as_generate name rows Run is tells = absurd (distinct 103 114 refl (ap first_byte (sym is ∙ tells)))
+as_generate name rows (OnFile task) is tells = absurd (not_gen task (sym tells ∙ is))
 as_generate name rows (Format slots log_pages) is tells = absurd (distinct 103 102 refl (ap first_byte (sym is ∙ tells.0)))
 as_generate name rows (Generate number count) is tells = record { number = number; count = count; is = refl; first = tells.1; second = tells.2; few = tells.3 }
 as_generate name rows (Trial number count) is tells = absurd (distinct 103 116 refl (ap first_byte (sym is ∙ tells.0)))
 
 pub as_trial : (name : Text) (rows : List Row) (command : Command) → name ≡ codes "trial" → Tells name rows command → AreNumbers Trial rows command
-as_trial name rows Run is tells = absurd (distinct 116 114 refl (ap first_byte (sym is ∙ tells)))
+as_trial name rows (OnFile task) is tells = absurd (not_trial task (sym tells ∙ is))
 as_trial name rows (Format slots log_pages) is tells = absurd (distinct 116 102 refl (ap first_byte (sym is ∙ tells.0)))
 as_trial name rows (Generate number count) is tells = absurd (distinct 116 103 refl (ap first_byte (sym is ∙ tells.0)))
 as_trial name rows (Trial number count) is tells = record { number = number; count = count; is = refl; first = tells.1; second = tells.2; few = tells.3 }
 
 -- what stands in no row of names is no command
-pub as_none : (name : Text) (rows : List Row) (command : Command) → (name ≡ codes "run" → ⊥) → (name ≡ codes "format" → ⊥) → (name ≡ codes "gen" → ⊥) → (name ≡ codes "trial" → ⊥) → Tells name rows command → ⊥
-as_none name rows Run run format gen trial tells = run tells
-as_none name rows (Format slots log_pages) run format gen trial tells = format tells.0
-as_none name rows (Generate number count) run format gen trial tells = gen tells.0
-as_none name rows (Trial number count) run format gen trial tells = trial tells.0
+pub as_none : (name : Text) (rows : List Row) (command : Command) → (IsTask name → ⊥) → (name ≡ codes "format" → ⊥) → (name ≡ codes "gen" → ⊥) → (name ≡ codes "trial" → ⊥) → Tells name rows command → ⊥
+as_none name rows (OnFile task) no_task format gen trial tells = no_task (record { task = task; spelled = tells })
+as_none name rows (Format slots log_pages) no_task format gen trial tells = format tells.0
+as_none name rows (Generate number count) no_task format gen trial tells = gen tells.0
+as_none name rows (Trial number count) no_task format gen trial tells = trial tells.0

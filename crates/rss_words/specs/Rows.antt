@@ -6,7 +6,9 @@ use Rattle.clap.specs.declared.builder.command.Command.TheViews.{out-Command}
 use Rattle.clap.specs.declared.parser.matches.ArgMatches.{ArgMatches}
 use Rattle.rss_model.specs.Generator.{most_employees}
 use Rattle.rss_words.specs.declared.command.Command.{Command}
-use Rattle.rss_words.specs.declared.command.Command.TheVariants.{Run, Format, Generate, Trial}
+use Rattle.rss_words.specs.declared.command.Command.TheVariants.{OnFile, Format, Generate, Trial}
+use Rattle.rss_words.specs.declared.task.Task.TheVariants.{Run, Talk}
+use Rattle.rss_words.specs.Words.{task_name}
 
 -- ---- the subcommands
 
@@ -17,8 +19,8 @@ abbrev pub format_row : App
 format_row = with_rule (with_rule (with_rule (new_app (codes "format"))
     (required (codes "FILE"))) (required (codes "N"))) (required (codes "G"))
 
-abbrev pub run_row : App
-run_row = with_rule (new_app (codes "run")) (required (codes "FILE"))
+abbrev pub task_row : Text → App
+task_row name = with_rule (new_app name) (required (codes "FILE"))
 
 abbrev pub generate_row : App
 generate_row = with_rule (with_rule (new_app (codes "gen"))
@@ -45,8 +47,8 @@ bare = record (new_app (codes "rss")) {
 }
 
 abbrev pub rss : App
-rss = with_subcommand (with_subcommand (with_subcommand (with_subcommand bare
-    format_row.top) run_row.top) generate_row.top) trial_row.top
+rss = with_subcommand (with_subcommand (with_subcommand (with_subcommand (with_subcommand bare
+    format_row.top) (task_row (task_name Run)).top) generate_row.top) trial_row.top) (task_row (task_name Talk)).top
 
 -- ---- what is found
 
@@ -57,7 +59,7 @@ pub record Has (rows : List Row) (name : Text) (n : ℕ) : Type 0 where
 
 -- a subcommand with these arguments is this command
 abbrev pub Tells : Text → List Row → Command → Type 0
-Tells name rows Run = name ≡ codes "run"
+Tells name rows (OnFile task) = name ≡ task_name task
 Tells name rows (Format slots log_pages) =
     (name ≡ codes "format") × Has rows (codes "N") slots × Has rows (codes "G") log_pages
 Tells name rows (Generate number count) =

@@ -2,7 +2,9 @@
 use Rattle.std.specs.Prelude.{◌≡◌, ◌≢◌, ℕ, ◌^◌, ◌<◌, ◌≤◌, List, [], ◌∷◌, Option, Some, None, codes, decimal, ⊤}
 use Rattle.rss_model.specs.Generator.{most_employees}
 use Rattle.rss_words.specs.declared.command.Command.{Command}
-use Rattle.rss_words.specs.declared.command.Command.TheVariants.{Run, Format, Generate, Trial}
+use Rattle.rss_words.specs.declared.command.Command.TheVariants.{OnFile, Format, Generate, Trial}
+use Rattle.rss_words.specs.declared.task.Task.{Task}
+use Rattle.rss_words.specs.declared.task.Task.TheVariants.{Run, Talk}
 
 abbrev pub hyphen : ℕ
 hyphen = 45
@@ -13,11 +15,20 @@ abbrev pub IsPlain : List ℕ → Type 0
 IsPlain [] = ⊤
 IsPlain (b ∷ bytes) = b ≢ hyphen
 
--- `run` and a file
-pub record AreRun (words : List (List ℕ)) : Type 0 where
+abbrev pub task_name : Task → List ℕ
+task_name Run = codes "run"
+task_name Talk = codes "talk"
+
+-- a task, by its name
+pub record IsTask (word : List ℕ) : Type 0 where
+  pub task : Task
+  pub spelled : word ≡ task_name task
+
+-- a task and a file
+pub record AreOnFile (task : Task) (words : List (List ℕ)) : Type 0 where
   pub program : List ℕ
   pub file : List ℕ
-  pub spelled : words ≡ program ∷ codes "run" ∷ file ∷ []
+  pub spelled : words ≡ program ∷ task_name task ∷ file ∷ []
   pub plain : IsPlain file
 
 -- `format`, a file, and how many slots and how many log pages, in decimals without leading zeros
@@ -64,7 +75,7 @@ pub record IsCount (word : List ℕ) : Type 0 where
 
 -- the words ask for this
 abbrev pub AskFor : List (List ℕ) → Command → Type 0
-AskFor words Run = AreRun words
+AskFor words (OnFile task) = AreOnFile task words
 AskFor words (Format slots log_pages) = AreFormat words slots log_pages
 AskFor words (Generate number count) = AreGenerate words number count
 AskFor words (Trial number count) = AreTrial words number count
@@ -83,7 +94,7 @@ Reads words None = IsCommand words → ⊥
 
 -- the file that they name
 pub data IsFileOf (words : List (List ℕ)) (file : List ℕ) : Type 0 where
-  run : (are : AreRun words) → file ≡ are.file → IsFileOf words file
+  on_file : {task : Task} → (are : AreOnFile task words) → file ≡ are.file → IsFileOf words file
   format : {slots log_pages : ℕ} → (are : AreFormat words slots log_pages) → file ≡ are.file
       → IsFileOf words file
   trial : {number count : ℕ} → (are : AreTrial words number count) → file ≡ are.file

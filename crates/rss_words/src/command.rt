@@ -4,13 +4,14 @@ ghost use Rattle.rss_words.specs.Words.{IsCommand, Reads};
 
 use crate::good::are_good;
 use crate::parsing::parse;
+use crate::task::Task;
 use std::alloc::{AllocError, Global};
 
 /// What is to be done.
 #[derive(Clone, Copy)]
 pub enum Command {
     /// A script is run over the store of a file.
-    Run,
+    OnFile(Task),
     /// A file is made an empty store.
     Format { slots: u64, log_pages: u64 },
     /// A script is generated.

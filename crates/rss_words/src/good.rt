@@ -2,6 +2,7 @@
 ghost use Rattle.std.specs.Prelude.{◌≡◌, ◌↔◌, IsTrue, map, string_bytes};
 ghost use Rattle.rss_words.specs.Words.{IsPlain, IsCommand, IsNumber, IsCount};
 
+use crate::task::is_task;
 use rss_line::{MOST_EMPLOYEES, read_number};
 
 /// Whether the words are a command, the program's own name first.
@@ -9,7 +10,7 @@ pub fn are_good(words: &[String]) -> bool
     ensures { IsTrue result ↔ IsCommand (map string_bytes words.now) }
 {
     match words {
-        [_, name, file] => name.as_str() == "run" && is_plain(file.as_str()),
+        [_, name, file] => is_task(name.as_str()) && is_plain(file.as_str()),
         [_, name, number, count] => {
             name.as_str() == "gen" && (is_number(number.as_str()) && is_count(count.as_str()))
         }

@@ -5,6 +5,8 @@ mod command;
 mod good;
 mod naming;
 mod parsing;
+mod task;
 
 pub use command::{Command, read_command};
 pub use naming::{file_word, format_sizes};
+pub use task::Task;

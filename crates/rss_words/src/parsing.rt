@@ -3,9 +3,10 @@ ghost use Rattle.std.specs.Prelude.{◌≡◌, ℕ, ◌≤◌, false, Some, IfOk
 ghost use Rattle.clap.specs.Words.{found_of, rows_of, rule_of, app_of};
 ghost use Rattle.rss_model.specs.Generator.{most_employees};
 ghost use Rattle.rss_words.specs.Words.{IsCommand, AskFor};
-ghost use Rattle.rss_words.specs.Rows.{required, IsRow, format_row, run_row, generate_row, trial_row, bare, rss, Has, Finds};
+ghost use Rattle.rss_words.specs.Rows.{required, IsRow, task_row, format_row, generate_row, trial_row, bare, rss, Has, Finds};
 
 use crate::command::Command;
+use crate::task::Task;
 use clap::error::ErrorKind;
 use clap::{Arg, ArgMatches};
 use rss_line::{MOST_EMPLOYEES, read_number};
@@ -28,10 +29,11 @@ fn format_row<'a>(alloc: Global) -> Result<clap::Command<'a>, AllocError>
         .arg(word(alloc, "G"))
 }
 
-fn run_row<'a>(alloc: Global) -> Result<clap::Command<'a>, AllocError>
-    ensures { IfOk result (IsRow run_row) }
+/// The row of a task.
+fn task_row<'a>(alloc: Global, name: &'a str) -> Result<clap::Command<'a>, AllocError>
+    ensures { IfOk result (IsRow (task_row name.entry.now)) }
 {
-    clap::Command::new(alloc, "run").arg(word(alloc, "FILE"))
+    clap::Command::new(alloc, name).arg(word(alloc, "FILE"))
 }
 
 fn generate_row<'a>(alloc: Global) -> Result<clap::Command<'a>, AllocError>
@@ -68,9 +70,10 @@ fn rss<'a>(alloc: Global) -> Result<clap::Command<'a>, AllocError>
 {
     bare(alloc)
         .subcommand(format_row(alloc)?)?
-        .subcommand(run_row(alloc)?)?
+        .subcommand(task_row(alloc, "run")?)?
         .subcommand(generate_row(alloc)?)?
-        .subcommand(trial_row(alloc)?)
+        .subcommand(trial_row(alloc)?)?
+        .subcommand(task_row(alloc, "talk")?)
 }
 
 /// The command of good words. clap refuses them for want of memory alone.
@@ -97,7 +100,6 @@ fn command_of(matches: &ArgMatches) -> Option<Command>
 {
     let (name, values) = matches.subcommand()?;
     match name {
-        "run" => Some(Command::Run),
         "format" => Some(Command::Format {
             slots: number_in(values, "N")?,
             log_pages: number_in(values, "G")?,
@@ -110,7 +112,7 @@ fn command_of(matches: &ArgMatches) -> Option<Command>
             number: number_in(values, "NUMBER")?,
             count: count_in(values, "COUNT")?,
         }),
-        _ => None,
+        _ => Some(Command::OnFile(Task::named(name)?)),
     }
 }
 

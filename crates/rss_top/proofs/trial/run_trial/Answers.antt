@@ -28,5 +28,5 @@ returns g c =
       ran = c.run_script-ran.result.0;
       runs = c.run_script-ran.ensures;
       tells = c.tell-status.ensures;
-      complete = λ size tables pages told opens unspent sink device. completes_trial old new sink_old sink_new source_old source_new c.bytes.result.now told opens unspent sink device c.run_script-ran.result.0 c.run_script-ran.ensures.cause c.tell-status.ensures;
+      complete = λ size tables pages told opens sink device. completes_trial old new sink_old sink_new source_old source_new c.bytes.result.now told opens sink device c.run_script-ran.result.0 c.run_script-ran.ensures.cause c.tell-status.ensures;
     }

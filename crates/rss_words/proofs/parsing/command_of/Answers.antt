@@ -3,13 +3,8 @@ use Rattle.std.specs.Prelude.{Some}
 use Rattle.std.proofs.lemmas.Option.{none-some, same_Some}
 use Rattle.clap.specs.Words.{found_of, rows_of}
 use Rattle.rss_words.specs.declared.command.Command.TheVariants.{Format, Generate, Trial}
-use Rattle.rss_words.proofs.Taken.{told, as_run, as_format, as_generate, as_trial, as_none, not_none}
+use Rattle.rss_words.proofs.Taken.{told, as_task, as_format, as_generate, as_trial, as_none, not_none}
 use Rattle.rss_words.proofs.parsing.command_of.Goals as goal
-
-pub returns-in-run : goal.returns-in-run
-returns-in-run c = λ command finds.
-    let rows = rows_of (found_of c.in_ok-name.values.now) in
-    ap Some (as_run c.in_ok-name.name.now rows command c.in-run.is (told c.args.matches.now command c.in_ok-name.name.now rows c.in_ok-name.ensures.name c.in_ok-name.ensures.rows finds))
 
 pub returns-in_err-number_in-in-format : goal.returns-in_err-number_in-in-format
 returns-in_err-number_in-in-format c = λ command finds.
@@ -71,10 +66,15 @@ returns-in_ok-count_in-in-trial c = λ command finds.
     let count : c.in_ok-count_in-in-trial.field-0 ≡ are.count = same_Some c.in_ok-count_in-in-trial.field-0 are.count (c.in_ok-count_in-in-trial.ensures are.count are.second are.few) in
     ap Some (ap₂ Trial number count ∙ are.is)
 
-pub returns-in_default : goal.returns-in_default
-returns-in_default c = λ command finds.
+pub returns-in_err-named-in_default : goal.returns-in_err-named-in_default
+returns-in_err-named-in_default c = λ command finds.
     let rows = rows_of (found_of c.in_ok-name.values.now) in
-    absurd (as_none c.in_ok-name.name.now rows command c.in_default.not-run c.in_default.not-format c.in_default.not-gen c.in_default.not-trial (told c.args.matches.now command c.in_ok-name.name.now rows c.in_ok-name.ensures.name c.in_ok-name.ensures.rows finds))
+    absurd (as_none c.in_ok-name.name.now rows command c.in_err-named-in_default.ensures.none c.in_default.not-format c.in_default.not-gen c.in_default.not-trial (told c.args.matches.now command c.in_ok-name.name.now rows c.in_ok-name.ensures.name c.in_ok-name.ensures.rows finds))
+
+pub returns-in_ok-named-in_default : goal.returns-in_ok-named-in_default
+returns-in_ok-named-in_default c = λ command finds.
+    let rows = rows_of (found_of c.in_ok-name.values.now) in
+    ap Some (as_task c.in_ok-name.name.now rows command _ c.in_ok-named-in_default.ensures.some (told c.args.matches.now command c.in_ok-name.name.now rows c.in_ok-name.ensures.name c.in_ok-name.ensures.rows finds))
 
 pub returns-in_err-name : goal.returns-in_err-name
 returns-in_err-name c = λ command finds. absurd (not_none c.args.matches.now command finds c.in_err-name.ensures.name)

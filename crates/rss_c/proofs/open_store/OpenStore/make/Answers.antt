@@ -27,4 +27,4 @@ returns-clause-made c =
 
 pub returns-clause-unmade : goal.returns-clause-unmade
 returns-clause-unmade c =
-    unmade_on c.args.slots c.args.log_pages c.format.new.device (search rules) (search rules) (search rules) c.over.result c.over.ensures.refused c.over.ensures.cause
+    unmade_on c.args.slots c.args.log_pages c.format.new.device (search rules) (search rules) c.over.result c.over.ensures.refused c.over.ensures.cause

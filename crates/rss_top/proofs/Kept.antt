@@ -1,19 +1,17 @@
--- The front of a line, of which so much is kept that a line too long to be a call stays one.
+-- How much of a line is kept, so that it does what the line does.
 use Rattle.std.proofs.Common.{◌≡◌, ◌⊎◌, inl, inr, ℕ, ◌+◌, ◌≤◌, List, length, take, subst, arith, length-take}
-use Rattle.std.specs.Prelude.{Result}
 use Rattle.std.proofs.lemmas.List.{take_all}
 use Rattle.std.proofs.lemmas.Bool.{cases_lt}
+use Rattle.rss_lines.specs.Lines.{script_limit}
 use Rattle.rss_model.specs.Script.{line_limit}
 use Rattle.rss_model.specs.Variables.{Variable}
 use Rattle.rss_model.specs.Forms.{IsWords}
-use Rattle.rss_model.specs.Machine.{State}
 use Rattle.rss_model.specs.Plays.{Scene, Made, LineStep}
 use Rattle.rss_model.specs.Plays.LineStep.{blank, words, call}
-use Rattle.rss_top.specs.Lines.{View, LineRan, LineStopped, RunsLine}
-use Rattle.rss_top.specs.declared.status.Status.{Status}
-use Rattle.rss_top.proofs.Ways.{by_stop, runs_as}
+use Rattle.rss_top.specs.Manners.{IsEnough}
+use Rattle.rss_top.specs.Tellings.{ToldMove, told_by, plainly, talking}
 
--- of a line this many bytes are kept: one more than a line may have
+-- one byte more than a line may have
 abbrev pub kept_limit : ℕ
 kept_limit = line_limit + 1
 
@@ -46,18 +44,14 @@ step_whole {old = old} {new = new} {made = made} line step = elim (long_or_kept 
   | inr long ↦ as_words long (kept_long line long) step
 ]
 
-module _ (old new : View) (state : State) (line : List ℕ) where
-  ran_whole : LineRan old new state (take kept_limit line) → LineRan old new state line
-  ran_whole ran = record { made = ran.made; next = ran.next; shows = ran.shows; done = record { step = step_whole line ran.done.step; moments = ran.done.moments }; opens = ran.opens; takes = ran.takes }
+-- Where only its reply is told, so much of a line is enough.
+pub plainly_enough : IsEnough (told_by plainly) kept_limit
+plainly_enough = record {
+  does = λ from next line made short move. record { said = move.said; step = step_whole line move.step; turns = move.turns; text = move.text; memory = move.memory };
+}
 
-  stopped_whole : (status : Status) → LineStopped old new state (take kept_limit line) status → LineStopped old new state line status
-  stopped_whole status stop = by_stop (LineStopped old new state line) status
-      (λ stop. record { made = stop.made; next = stop.next; done = record { step = step_whole line stop.done.step; moments = stop.done.moments }; same = stop.same })
-      (λ stop. record { made = stop.made; next = stop.next; done = record { step = step_whole line stop.done.step; moments = stop.done.moments }; opens = stop.opens; takes = stop.takes })
-      (λ stop. stop)
-      stop
-
-pub runs_whole : {T : Type 0} {old new : View} {front : List ℕ} (line : List ℕ) (result : Result T Status) → front ≡ take kept_limit line → RunsLine old new front result → RunsLine old new line result
-runs_whole {T = T} {old = old} {new = new} line result is runs =
-    runs_as result (λ ran state shown. ran_whole old new state line (ran state shown)) (λ status stop state shown. stopped_whole old new state line status (stop state shown))
-    (subst (λ (l : List ℕ). RunsLine {T = T} old new l result) is runs)
+-- Where it is told itself, all that a script may have.
+pub talking_enough : IsEnough (told_by talking) script_limit
+talking_enough = record {
+  does = λ from next line made short move. subst (λ (l : List ℕ). ToldMove talking from l made next) (take_all script_limit line short) move;
+}

@@ -1,7 +1,7 @@
 use Rattle.std.proofs.Common.{rules, ap₂, ◌∙◌}
 use Rattle.std.proofs.lemmas.Result.{IfOk-weaker}
 use Rattle.clap.specs.Words.{with_rule}
-use Rattle.rss_words.proofs.parsing.run_row.Goals as goal
+use Rattle.rss_words.proofs.parsing.task_row.Goals as goal
 
 pub returns : goal.returns
 returns c = IfOk-weaker c.arg.result _ _ (λ command adds. record {

@@ -1,4 +1,4 @@
-use Rattle.rss_top.proofs.line.ask.Goals as goal
+use Rattle.rss_top.proofs.hearing.ask.Goals as goal
 
 pub returns-in-Ok : goal.returns-in-Ok
 returns-in-Ok g c = record { goes = c.call.ensures.done.goes; outcome = c.in-Ok.ensures.done.outcome c.requires.up }
