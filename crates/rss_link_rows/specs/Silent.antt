@@ -18,6 +18,7 @@ no_pages = record {
   asks = 0;
   writes = 0;
   faults = 0;
+  outs = 0;
   fixed = record { size = 0; held_at = λ q. None };
   settled = false;
   backing = record { log_pages = 0; area = 0; frames = 0; shadow = [] };

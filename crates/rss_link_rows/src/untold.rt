@@ -7,7 +7,7 @@ ghost use Rattle.rss_base.specs.Tids.{IsAfter};
 ghost use Rattle.rss_link_rows.specs.Silent.{untold};
 
 use rss_base::{Body, PAGE_ENTRIES, PageFault, PageKey, Place, Space, Tid};
-use rss_tuple::Tuples;
+use rss_tuple::{BodyAt, Tuples};
 use std::alloc::Global;
 use std::test::Fail;
 
@@ -88,6 +88,15 @@ impl Tuples for Untold {
 
     fn insert_at(&mut self, segment: u8, tid: Tid, _body: &[u8]) -> Result<(), PageFault> {
         Err(PageFault::Damaged(Place::Tuple(segment, tid)))
+    }
+
+    // No page is in memory, so bodies are copied alone.
+    fn locate(&mut self, _segment: u8, _tid: Tid) -> Result<Option<BodyAt>, PageFault> {
+        Ok(None)
+    }
+
+    fn body(&self, _at: BodyAt) -> &[u8] {
+        unreachable!()
     }
 
     fn fetch(&mut self, _segment: u8, tid: Tid, into: &mut Body) -> Result<bool, PageFault> {

@@ -113,19 +113,18 @@ pub(crate) fn assert_untouched<C: Debug + Copy>(
     Ok(())
 }
 
-/// An empty store of so many slots and 8 log pages.
-fn formatted(alloc: Global, slots: &str) -> Result<MemDevice, Fail> {
-    let (status, _, device) = format_device(alloc, MemDevice::empty(alloc), slots, "8")?;
-    if status != Status::Ok {
-        return Err("the store wasn't made".into());
-    }
+/// An empty store of so many slots and log pages.
+pub(crate) fn new_store(alloc: Global, slots: &str, log_pages: &str) -> Result<MemDevice, Fail> {
+    let device = MemDevice::empty(alloc);
+    let (status, _, device) = format_device(alloc, device, slots, log_pages)?;
+    assert_same(&status, &Status::Ok, slots)?;
     Ok(device)
 }
 
-/// The same, all synced, with no moments yet.
+/// One of so many slots and 8 log pages, all synced, with no moments yet.
 pub(crate) fn empty_store(alloc: Global, slots: u32) -> Result<MemDevice, Fail> {
     let slots = format!(in alloc; "{slots}")?;
-    let device = formatted(alloc, slots.as_str())?;
+    let device = new_store(alloc, slots.as_str(), "8")?;
     Ok(without_moments(alloc, &device)?)
 }
 

@@ -4,6 +4,8 @@
 #[cfg(test)]
 mod adapters;
 #[cfg(test)]
+mod call_faults;
+#[cfg(test)]
 mod changes;
 #[cfg(test)]
 mod defining;
@@ -11,6 +13,8 @@ mod defining;
 mod definitions;
 #[cfg(test)]
 mod engines;
+#[cfg(test)]
+mod far_log;
 #[cfg(test)]
 mod file_faults;
 #[cfg(test)]
@@ -42,6 +46,8 @@ mod many;
 #[cfg(test)]
 mod mixtures;
 #[cfg(test)]
+mod paged_replies;
+#[cfg(test)]
 mod recovering;
 #[cfg(test)]
 mod refusals;
@@ -50,6 +56,8 @@ mod relations;
 #[cfg(test)]
 mod ring;
 #[cfg(test)]
+mod room_stops;
+#[cfg(test)]
 mod scanning;
 #[cfg(test)]
 mod scripts;
@@ -57,6 +65,8 @@ mod scripts;
 mod statuses;
 #[cfg(test)]
 mod stops;
+#[cfg(test)]
+mod talking;
 #[cfg(test)]
 mod texts;
 #[cfg(test)]

@@ -10,7 +10,7 @@ use std::test::Fail;
 /// Two chains of a binary link and one of a unary link, each over the same tuples. A connect is taken back
 /// at once, one behind a checkpoint, and one by an abort; tuples come, go out and are deleted. At last 1 is
 /// taken back behind a checkpoint, 3 ends, and 2 is never over.
-const CHANGED: Row<'static> = Row {
+pub(crate) const CHANGED: Row<'static> = Row {
     script: b"\
 begin 1
 connect 1 b 0.2 0.0 first
@@ -88,7 +88,7 @@ ok
 };
 
 /// Goes along the chains.
-const LOOKS: Told<'static> = Told {
+pub(crate) const LOOKS: Told<'static> = Told {
     script: b"\
 begin 1
 open 1 link b 0.0
@@ -155,7 +155,7 @@ end
 };
 
 /// A store with the tuples.
-fn filled(alloc: Global) -> Result<MemDevice, Fail> {
+pub(crate) fn filled(alloc: Global) -> Result<MemDevice, Fail> {
     let device = store_with_r(alloc, SMALL)?;
     let device = store_after(alloc, device, b"relation p s a:int\nlink b p r\nlink u r\n")?;
     store_after(

@@ -9,7 +9,7 @@ use std::test::Fail;
 
 /// 1 has ended at the checkpoint. 2, 3 and 6 are open at it: 2 ends, 6 is taken back, and 3 is never
 /// over. 4, 5 and 7 begin behind it: 4 ends, 7 is taken back, and 5 is never over.
-const MIXED: Row<'static> = Row {
+pub(crate) const MIXED: Row<'static> = Row {
     script: b"\
 begin 1
 begin 2
@@ -72,6 +72,21 @@ impl Told<'_> {
         self.found.len().saturating_sub(1)
     }
 
+    /// How many are made in these pages, if they are a store.
+    pub(crate) fn commits_in(
+        &self,
+        alloc: Global,
+        pages: Vec<Page>,
+    ) -> Result<Option<usize>, Fail> {
+        let device = MemDevice::new(alloc, pages)?;
+        let (_, replies, _) = run_script(alloc, device, self.script, WHOLE)?;
+        Ok(
+            self.found
+                .iter()
+                .position(|found| *found == replies.as_slice()),
+        )
+    }
+
     /// How many are made in what a stop at a moment leaves, if that is a store.
     fn commits_at(
         &self,
@@ -80,18 +95,12 @@ impl Told<'_> {
         moment: usize,
         unsynced: Unsynced,
     ) -> Result<Option<usize>, Fail> {
-        let left = image_at(alloc, device, moment, unsynced)?;
-        let (_, replies, _) = run_script(alloc, MemDevice::new(alloc, left)?, self.script, WHOLE)?;
-        Ok(
-            self.found
-                .iter()
-                .position(|found| *found == replies.as_slice()),
-        )
+        self.commits_in(alloc, image_at(alloc, device, moment, unsynced)?)
     }
 }
 
 /// Fetches each tuple that was inserted. None is committed; 1; 1 and 2; and 1, 2 and 4.
-const FETCHES: Told<'static> = Told {
+pub(crate) const FETCHES: Told<'static> = Told {
     script: b"\
 begin 1
 fetch 1 r 0.0

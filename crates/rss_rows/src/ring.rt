@@ -2,7 +2,7 @@
 ghost use Rattle.std.specs.Prelude.{◌<◌};
 
 use crate::harness::{Row, SMALL, WHOLE, assert_script, empty_store, store_after};
-use crate::lines::write_lines;
+use crate::lines::{write_lines, write_text};
 use rss_device::MemDevice;
 use rss_images::{UNSYNCED, assert_same, assert_same_slices, image_at};
 use rss_scripts::{run_script, without_moments};
@@ -26,13 +26,10 @@ const TRANSACTIONS: u32 = 130;
 /// How many slots their store has: room for 60 changes and more behind a checkpoint.
 const SLOTS: u32 = 512;
 
-/// Writes a text of so many letters, in quotes.
-fn write_text(line: &mut String, length: u32) -> Result<(), Fail> {
-    line.push_str(" \"")?;
-    for _ in 0..length {
-        line.push('x')?;
-    }
-    line.push_str("\"\n")?;
+/// Writes a text of so many letters, and the end of the line.
+fn write_letters(line: &mut String, length: u32) -> Result<(), Fail> {
+    write_text(line, 'x', length)?;
+    line.push('\n')?;
     Ok(())
 }
 
@@ -47,7 +44,7 @@ fn transactions(alloc: Global) -> Result<String, Fail> {
     let mut script = String::new(alloc);
     for number in 1..TRANSACTIONS + 1 {
         write!(script, "begin 1\nupdate 1 t 0.0 {number}")?;
-        write_text(&mut script, 255)?;
+        write_letters(&mut script, 255)?;
         write_lines(&mut script, "end 1\n")?;
     }
     Ok(script)
@@ -57,7 +54,7 @@ fn transactions(alloc: Global) -> Result<String, Fail> {
 fn fetched(alloc: Global, number: u32) -> Result<String, Fail> {
     let mut replies = String::new(alloc);
     write!(replies, "ok\nok {number}")?;
-    write_text(&mut replies, length_behind(number))?;
+    write_letters(&mut replies, length_behind(number))?;
     Ok(replies)
 }
 
@@ -162,7 +159,7 @@ fn filling(alloc: Global, end: &str) -> Result<(String, String), Fail> {
     write_lines(&mut replies, "ok\n")?;
     for number in 0..INSERTS + 1 {
         write!(script, "insert 1 t {number}")?;
-        write_text(&mut script, 255)?;
+        write_letters(&mut script, 255)?;
     }
     for number in 0..INSERTS {
         write_place(&mut replies, number, PAGE_TUPLES)?;
@@ -211,9 +208,9 @@ ok 10.11
 ";
 
 /// Writes an insert of 200 letters by transaction 2.
-fn write_letters(script: &mut String) -> Result<(), Fail> {
+fn write_insert(script: &mut String) -> Result<(), Fail> {
     write_lines(script, "insert 2 r")?;
-    write_text(script, 200)
+    write_letters(script, 200)
 }
 
 /// A script in which one transaction stays open until the others have filled the log.
@@ -222,13 +219,13 @@ fn one_open(alloc: Global) -> Result<String, Fail> {
     write_lines(&mut script, OPENED)?;
     for _ in 0..ENDED {
         write_lines(&mut script, "begin 2\n")?;
-        write_letters(&mut script)?;
+        write_insert(&mut script)?;
         write_lines(&mut script, "end 2\n")?;
     }
     write_lines(&mut script, "begin 2\n")?;
-    write_letters(&mut script)?;
+    write_insert(&mut script)?;
     write_lines(&mut script, "end 1\n")?;
-    write_letters(&mut script)?;
+    write_insert(&mut script)?;
     Ok(script)
 }
 

@@ -1,5 +1,6 @@
 // How a run ends, and what it leaves.
 use crate::harness::{ABSENT, NEVER, PRESENT, SMALL, assert_probe, assert_untouched, store_with_r};
+use crate::lines::{count_lines, first_lines};
 use rss_device::{MemDevice, MemSink, MemSource};
 use rss_images::{assert_same, assert_same_slices};
 use rss_scripts::run_words;
@@ -10,7 +11,11 @@ use std::test::Fail;
 /// A script with one commit.
 const COMMIT: &[u8] = b"begin 1\ninsert 1 r 8\nend 1\nfetch 1 r 0.0";
 
+/// Its replies.
+const REPLIES: &[u8] = b"ok\nok 0.0\nok\nrefused 2 no transaction\n";
+
 /// A fault of the source or the sink while the commit's script is run.
+#[derive(Drop)]
 struct Fault {
     name: &'static str,
     /// How many bytes a read gives.
@@ -31,7 +36,7 @@ static FAULTS: [Fault; 6] = [
         read: NEVER,
         write: NEVER,
         status: Status::Ok,
-        replies: b"ok\nok 0.0\nok\nrefused 2 no transaction\n",
+        replies: REPLIES,
         leaves: PRESENT,
     },
     Fault {
@@ -82,7 +87,7 @@ static FAULTS: [Fault; 6] = [
 ];
 
 /// Words that are no command, after the program's own name.
-static WORDS: [&[&str]; 48] = [
+static WORDS: [&[&str]; 53] = [
     &[],
     &["run"],
     &["FILE"],
@@ -127,6 +132,11 @@ static WORDS: [&[&str]; 48] = [
     &["trial", "FILE", "01", "1"],
     &["trial", "FILE", "1", "+1"],
     &["trial", "FILE", "18446744073709551616", "1"],
+    &["talk"],
+    &["Talk", "FILE"],
+    &["talk", "FILE", "FILE"],
+    &["talk", "FILE", "64", "8"],
+    &["talk", "-FILE"],
     &["run", "-FILE"],
     &["trial", "-FILE", "1", "1"],
     &["format", "-FILE", "64", "8"],
@@ -151,6 +161,63 @@ fn a_fault_of_the_source_or_the_sink_ends_the_run(rt: HostRuntime) -> Result<(),
     for fault in &FAULTS {
         let device = run_with(rt.alloc(), fault)?;
         assert_probe(rt.alloc(), device, fault.leaves, fault.name)?;
+    }
+    Ok(())
+}
+
+/// What the probe gets behind so many lines of the script, of which the third commits.
+fn left_by(lines: usize) -> &'static [u8] {
+    if lines >= 3 { PRESENT } else { ABSENT }
+}
+
+/// A script that comes byte by byte, of which the read fails that follows so many bytes: the lines were run
+/// whose ends they have.
+fn failing_read(given: usize) -> Fault {
+    let lines = COMMIT
+        .iter()
+        .take(given)
+        .filter(|byte| **byte == b'\n')
+        .count();
+    Fault {
+        name: "a read",
+        piece: 1,
+        read: given as u64,
+        write: NEVER,
+        status: Status::ReadFault,
+        replies: first_lines(REPLIES, lines),
+        leaves: left_by(lines),
+    }
+}
+
+/// The reply fails that follows so many others: its line was run too.
+fn failing_write(replies: usize) -> Fault {
+    Fault {
+        name: "a write",
+        piece: 100,
+        read: NEVER,
+        write: replies as u64,
+        status: Status::WriteFault,
+        replies: first_lines(REPLIES, replies),
+        leaves: left_by(replies.saturating_add(1)),
+    }
+}
+
+#[test]
+fn each_read_and_each_write_fails_once(rt: HostRuntime) -> Result<(), Fail> {
+    for given in 0..=COMMIT.len() {
+        let fault = failing_read(given);
+        let device = run_with(rt.alloc(), &fault)?;
+        assert_probe(rt.alloc(), device, fault.leaves, ("a read behind", given))?;
+    }
+    for replies in 0..count_lines(REPLIES, b"") {
+        let fault = failing_write(replies);
+        let device = run_with(rt.alloc(), &fault)?;
+        assert_probe(
+            rt.alloc(),
+            device,
+            fault.leaves,
+            ("a write behind", replies),
+        )?;
     }
     Ok(())
 }

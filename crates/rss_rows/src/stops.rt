@@ -107,7 +107,7 @@ impl Commit<'_> {
 }
 
 /// A commit over a store without tuples.
-static FIRST: Commit<'static> = Commit {
+pub(crate) static FIRST: Commit<'static> = Commit {
     number: 0,
     row: Row {
         script: b"\
@@ -389,6 +389,23 @@ fn fail_call(alloc: Global, store: &MemDevice, commit: &Commit, call: u64) -> Re
     Ok(status)
 }
 
+/// Makes runs, in each of which another call of the device fails, from the first on, up to the one that
+/// makes fewer calls. Each other one ends with status 4.
+pub(crate) fn assert_each_fails<F: FnMut(u64) -> Result<Status, Fail>>(
+    mut run: F,
+) -> Result<(), Fail>
+    requires { F.IsAlwaysCallable run }
+{
+    for call in 0..MANY_CALLS {
+        let status = run(call)?;
+        if status == Status::Ok {
+            return Ok(());
+        }
+        assert_same(&status, &Status::DeviceFault, ("call", call))?;
+    }
+    Err("the run has too many calls".into())
+}
+
 /// Fails each device call of a commit over a store. The run ends with status 4, and leaves the tables
 /// before or after.
 pub(crate) fn assert_failures(
@@ -396,15 +413,7 @@ pub(crate) fn assert_failures(
     store: &MemDevice,
     commit: &Commit,
 ) -> Result<(), Fail> {
-    for call in 0..MANY_CALLS {
-        let status = fail_call(alloc, store, commit, call)?;
-        if status == Status::Ok {
-            return Ok(());
-        }
-        let case = ("commit", commit.number, "call", call);
-        assert_same(&status, &Status::DeviceFault, case)?;
-    }
-    Err("the run has too many calls".into())
+    assert_each_fails(|call| fail_call(alloc, store, commit, call))
 }
 
 #[test]

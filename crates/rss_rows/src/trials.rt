@@ -1,9 +1,10 @@
 // Trials: scripts that are generated, run over a store, and counted.
-use crate::harness::NEVER;
+use crate::harness::{NEVER, new_store};
+use crate::lines::count_lines;
 use rss_base::Source;
 use rss_device::{MemDevice, MemSink, MemSource};
 use rss_images::{assert_same, assert_same_slices};
-use rss_scripts::{format_device, run_script, run_words};
+use rss_scripts::{run_script, run_words};
 use rss_top::Status;
 use std::alloc::Global;
 use std::test::Fail;
@@ -44,13 +45,6 @@ static ROWS: [Row; 3] = [
     },
 ];
 
-fn new_store(alloc: Global, slots: &str, log_pages: &str) -> Result<MemDevice, Fail> {
-    let device = MemDevice::empty(alloc);
-    let (status, _, device) = format_device(alloc, device, slots, log_pages)?;
-    assert_same(&status, &Status::Ok, slots)?;
-    Ok(device)
-}
-
 /// Tries a script over a device, with a sink that fails at a write. The source isn't read.
 fn try_script(
     alloc: Global,
@@ -65,17 +59,6 @@ fn try_script(
     let (status, _) = run_words(alloc, &words, &mut source, &mut sink, device)?;
     assert_same(&source.read(&mut [0; 100]), &Ok(UNREAD.len()), words)?;
     Ok((status, sink))
-}
-
-/// How many lines a text has that begin so.
-fn count_lines(text: &[u8], begin: &[u8]) -> usize {
-    let mut lines: usize = 0;
-    for line in text.split(|byte| *byte == b'\n') {
-        if !line.is_empty() && line.starts_with(begin) {
-            lines = lines.saturating_add(1);
-        }
-    }
-    lines
 }
 
 /// The replies that a generated script gets of `run`.

@@ -1,6 +1,6 @@
 // Tuples that grow until they have no place on their home page, nor on the page that they moved to.
 use crate::harness::{Row, WHOLE, assert_script, empty_store, store_after};
-use crate::lines::write_lines;
+use crate::lines::{write_lines, write_text};
 use rss_device::MemDevice;
 use rss_images::assert_same;
 use rss_rsi::{MOST_FRAMES, open};
@@ -10,22 +10,22 @@ use std::fmt::Write;
 use std::test::Fail;
 
 /// The widest relation: eight texts of at most 255 bytes.
-const DEFINITIONS: &[u8] = b"\
+pub(crate) const DEFINITIONS: &[u8] = b"\
 segment s
 relation w s a:text255 b:text255 c:text255 d:text255 e:text255 f:text255 g:text255 h:text255
 ";
 
-const FIELDS: usize = 8;
+pub(crate) const FIELDS: usize = 8;
 
 /// A tuple whose first texts, so many of them, have 255 of these letters; the others are empty.
-struct Texts {
-    letter: char,
-    full: usize,
+pub(crate) struct Texts {
+    pub(crate) letter: char,
+    pub(crate) full: usize,
 }
 
 /// The tuples that are inserted. A body has a byte for the relation and one for each text beside its
 /// letters: 9, 9 and 2,049 bytes.
-static INSERTED: [Texts; 3] = [
+pub(crate) static INSERTED: [Texts; 3] = [
     Texts {
         letter: 'a',
         full: 0,
@@ -67,7 +67,7 @@ static UPDATED: [(usize, Texts); 3] = [
 ];
 
 /// What is there in the end, by the slots of the home page.
-static LEFT: [Texts; 3] = [
+pub(crate) static LEFT: [Texts; 3] = [
     Texts {
         letter: 'a',
         full: FIELDS,
@@ -86,29 +86,17 @@ static LEFT: [Texts; 3] = [
 const MAPPED: u32 = 13;
 
 /// Writes the texts as they stand in a line, each behind a space, and the end of the line.
-fn write_texts(lines: &mut String, texts: &Texts) -> Result<(), Fail> {
+pub(crate) fn write_texts(lines: &mut String, texts: &Texts) -> Result<(), Fail> {
     for field in 0..FIELDS {
-        lines.push_str(" \"")?;
-        write_letters(
-            lines,
-            texts.letter,
-            if field < texts.full { 255 } else { 0 },
-        )?;
-        lines.push_str("\"")?;
+        let length = if field < texts.full { 255 } else { 0 };
+        write_text(lines, texts.letter, length)?;
     }
-    lines.push_str("\n")?;
-    Ok(())
-}
-
-fn write_letters(lines: &mut String, letter: char, count: u32) -> Result<(), Fail> {
-    for _ in 0..count {
-        lines.push(letter)?;
-    }
+    lines.push('\n')?;
     Ok(())
 }
 
 /// Writes the inserts.
-fn write_inserts(script: &mut String) -> Result<(), Fail> {
+pub(crate) fn write_inserts(script: &mut String) -> Result<(), Fail> {
     for texts in &INSERTED {
         script.push_str("insert 1 w")?;
         write_texts(script, texts)?;
@@ -116,7 +104,7 @@ fn write_inserts(script: &mut String) -> Result<(), Fail> {
     Ok(())
 }
 
-fn write_updates(script: &mut String) -> Result<(), Fail> {
+pub(crate) fn write_updates(script: &mut String) -> Result<(), Fail> {
     for (slot, texts) in &UPDATED {
         write!(script, "update 1 w 0.{slot}")?;
         write_texts(script, texts)?;
@@ -124,9 +112,9 @@ fn write_updates(script: &mut String) -> Result<(), Fail> {
     Ok(())
 }
 
-/// Writes what fetches of the tuples that are left get.
-fn write_left(replies: &mut String) -> Result<(), Fail> {
-    for texts in &LEFT {
+/// Writes what fetches of these tuples get.
+pub(crate) fn write_found(replies: &mut String, tuples: &[Texts]) -> Result<(), Fail> {
+    for texts in tuples {
         replies.push_str("ok")?;
         write_texts(replies, texts)?;
     }
@@ -154,7 +142,7 @@ fn assert_changes(alloc: Global, device: MemDevice) -> Result<MemDevice, Fail> {
     )?;
     let mut replies = String::new(alloc);
     write_lines(&mut replies, "ok\nok 0.0\nok 0.1\nok 0.2\nok\nok\nok\n")?;
-    write_left(&mut replies)?;
+    write_found(&mut replies, &LEFT)?;
     write_lines(&mut replies, "ok\n")?;
     let row = Row {
         script: script.as_bytes(),
@@ -181,7 +169,7 @@ next 1 0
 fn assert_left(alloc: Global, device: MemDevice) -> Result<MemDevice, Fail> {
     let mut replies = String::new(alloc);
     write_lines(&mut replies, "ok\n")?;
-    write_left(&mut replies)?;
+    write_found(&mut replies, &LEFT)?;
     write_lines(&mut replies, "ok 0\n")?;
     write_given(&mut replies)?;
     write_lines(&mut replies, "end\n")?;
