@@ -1,11 +1,12 @@
 #!/usr/bin/env bash
-# How fast the engine's calls are in-process, beside LMDB, Berkeley DB and SQLite's C API as libraries.
+# How fast the engine's calls are in-process, beside SQLite's C API, LMDB and Berkeley DB as libraries.
 #
 # usage: peers.sh [COMMITS TUPLES BATCH [RUNS [IMAGES]]]
-# It builds peers.c, which needs the headers and libraries of the three, and runs it in turn with
+# It builds peers.c with those of the two last whose headers are there, and runs it in turn with
 # crates/rss_speed. The first table is of COMMITS commits of one insert, inserts up to TUPLES tuples in
-# transactions of BATCH, and fetches; the second of IMAGES tuples with an index, put in a rising and in a
-# scattered order: inserts, look-ups by key, and a scan.
+# transactions of BATCH, fetches, updates, and a scan; the second the same of IMAGES tuples, the third of
+# IMAGES tuples with an index, put in a rising and in a scattered order, and a unique one: inserts,
+# look-ups by key, and a scan.
 set -euo pipefail
 
 commits="${1:-200}" tuples="${2:-200000}" batch="${3:-8000}" runs="${4:-5}" images="${5:-100000}"
@@ -15,9 +16,15 @@ speed="$top/crates/rss_speed/out/rss_speed"
 folder="$(mktemp -d)"
 trap 'rm -rf "$folder"' EXIT
 peers="$folder/program"
-cc -O2 -o "$peers" "$top/examples/peers.c" -llmdb -ldb -lsqlite3
+libraries=(-lsqlite3)
+for library in lmdb db; do
+    if echo "#include <$library.h>" | cc -E - >/dev/null 2>&1; then
+        libraries+=("-l$library")
+    fi
+done
+cc -O2 -o "$peers" "$top/examples/peers.c" "${libraries[@]}"
 
-# Each engine's work, run by run: a line each of a name and three rates.
+# Each engine's work, run by run: a line each of a name and its rates.
 measure() {
     for ((run = 1; run <= runs; run++)); do
         mkdir "$folder/peers"
@@ -27,17 +34,32 @@ measure() {
     done
 }
 
-# The best of the runs, under these heads.
+# table HEAD..: the best of the runs, under these heads.
 table() {
-    echo "| A second, the best of the runs | $1 | $2 | $3 |"
-    echo "| --- | ---: | ---: | ---: |"
+    printf "| A second, the best of the runs"
+    printf " | %s" "$@"
+    printf " |\n| ---"
+    printf " | ---:%.0s" "$@"
+    printf " |\n"
     awk '
-        { if (!($1 in seen)) { seen[$1] = 1; names[++count] = $1 } for (k = 2; k <= 4; k++) if ($k > best[$1, k]) best[$1, k] = $k }
-        END { for (k = 1; k <= count; k++) printf "| %s | %s | %s | %s |\n", names[k], best[names[k], 2], best[names[k], 3], best[names[k], 4] }'
+        {
+            if (!($1 in seen)) { seen[$1] = 1; names[++count] = $1; rates[$1] = NF }
+            for (k = 2; k <= NF; k++) if ($k > best[$1, k]) best[$1, k] = $k
+        }
+        END {
+            for (n = 1; n <= count; n++) {
+                line = "| " names[n] " |"
+                for (k = 2; k <= rates[names[n]]; k++) line = line " " best[names[n], k] " |"
+                print line
+            }
+        }'
 }
 
-measure "$commits" "$tuples" "$batch" | table "commits of one insert" inserts fetches
-echo
-for order in rising scattered; do
-    measure "$order" "$images" "$batch"
+for count in "$tuples" "$images"; do
+    echo "Up to $count tuples:"
+    measure "$commits" "$count" "$batch" | table "commits of one insert" inserts fetches updates "tuples of a scan"
+    echo
+done
+for keys in rising scattered unique; do
+    measure "$keys" "$images" "$batch"
 done | table inserts look-ups "tuples of a scan"

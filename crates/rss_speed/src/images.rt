@@ -1,5 +1,7 @@
 // How fast the calls are over a relation with an image.
-use crate::{FIELD, RELATION, Work, ask, begin, define, end, insert, rate};
+use crate::{
+    FIELD, RELATION, Work, ask, begin, define, end, end_of_batch, insert, next, rate, scan_all,
+};
 use anyhow::{Result, bail};
 use rss_base::{Call, Name, NameList, Reply, Tuple, Value};
 use rss_stored::Engine;
@@ -10,56 +12,67 @@ const IMAGE: Name = Name {
     bytes: *b"i\0\0\0\0\0\0\0\0\0\0\0\0\0\0\0",
 };
 
-/// In which order the values come: each is below 2^32, and none comes twice.
+/// In which order the keys come, and whether the image is unique: each is below 2^32, and none comes twice.
 #[derive(Clone, Copy)]
-pub(crate) enum Order {
+pub(crate) enum Keys {
     Rising,
     Scattered,
+    /// Scattered, with a unique image.
+    Unique,
 }
 
-impl Order {
-    /// The order of this name.
+impl Keys {
+    /// The keys of this name.
     pub(crate) fn named(name: &str) -> Option<Self> {
         match name {
-            "rising" => Some(Order::Rising),
-            "scattered" => Some(Order::Scattered),
+            "rising" => Some(Keys::Rising),
+            "scattered" => Some(Keys::Scattered),
+            "unique" => Some(Keys::Unique),
             _ => None,
         }
     }
 
     fn name(self) -> &'static str {
         match self {
-            Order::Rising => "rising",
-            Order::Scattered => "scattered",
+            Keys::Rising => "rising",
+            Keys::Scattered => "scattered",
+            Keys::Unique => "unique",
         }
     }
 
     fn value(self, place: u32) -> u32 {
         match self {
-            Order::Rising => place,
-            Order::Scattered => place.wrapping_mul(2_654_435_761),
+            Keys::Rising => place,
+            Keys::Scattered | Keys::Unique => place.wrapping_mul(2_654_435_761),
+        }
+    }
+
+    fn are_unique(self) -> bool {
+        match self {
+            Keys::Rising | Keys::Scattered => false,
+            Keys::Unique => true,
         }
     }
 }
 
 /// Defines the image, and the relation beneath it.
-fn define_image<E: Engine>(engine: &mut E, alloc: Global) -> Result<()> {
+fn define_image<E: Engine>(engine: &mut E, alloc: Global, keys: Keys) -> Result<()> {
     define(engine, alloc)?;
     let mut fields = NameList::new(alloc);
     fields.push(FIELD)?;
-    ask(engine, &Call::MakeImage(IMAGE, RELATION, false, fields))?;
+    ask(
+        engine,
+        &Call::MakeImage(IMAGE, RELATION, keys.are_unique(), fields),
+    )?;
     Ok(())
 }
 
 /// Inserts in transactions of a batch.
-fn insert_all<E: Engine>(engine: &mut E, alloc: Global, work: Work, order: Order) -> Result<()> {
+fn insert_all<E: Engine>(engine: &mut E, alloc: Global, work: Work, keys: Keys) -> Result<()> {
     begin(engine)?;
     for place in 0..work.tuples {
-        insert(engine, alloc, order.value(place))?;
-        if (place + 1) % work.batch.max(1) == 0 {
-            end(engine)?;
-            begin(engine)?;
-        }
+        insert(engine, alloc, keys.value(place))?;
+        end_of_batch(engine, place, work)?;
     }
     end(engine)
 }
@@ -72,23 +85,11 @@ fn open_image<E: Engine>(engine: &mut E, from: Option<Tuple>) -> Result<u32> {
     }
 }
 
-/// The next tuple's value, if there is one.
-fn next<E: Engine>(engine: &mut E, scan: u32) -> Result<Option<i64>> {
-    match ask(engine, &Call::Next(1, scan))? {
-        Reply::Row(_, tuple) => match tuple.as_slice() {
-            [Value::Int(value)] => Ok(Some(*value)),
-            _ => bail!("a tuple of other fields"),
-        },
-        Reply::End => Ok(None),
-        other => bail!("a scan was answered {other:?}"),
-    }
-}
-
 /// Looks each value up, by a scan from it on.
-fn look_up_all<E: Engine>(engine: &mut E, alloc: Global, work: Work, order: Order) -> Result<()> {
+fn look_up_all<E: Engine>(engine: &mut E, alloc: Global, work: Work, keys: Keys) -> Result<()> {
     begin(engine)?;
     for place in 0..work.tuples {
-        let value = i64::from(order.value(place));
+        let value = i64::from(keys.value(place));
         let scan = open_image(engine, Some(Tuple::single(alloc, Value::Int(value))?))?;
         if next(engine, scan)? != Some(value) {
             bail!("{value} isn't found");
@@ -99,14 +100,10 @@ fn look_up_all<E: Engine>(engine: &mut E, alloc: Global, work: Work, order: Orde
 }
 
 /// Goes through the whole image.
-fn scan_all<E: Engine>(engine: &mut E, work: Work) -> Result<()> {
+fn scan_image<E: Engine>(engine: &mut E, work: Work) -> Result<()> {
     begin(engine)?;
     let scan = open_image(engine, None)?;
-    for _ in 0..work.tuples {
-        if next(engine, scan)?.is_none() {
-            bail!("the scan ends early");
-        }
-    }
+    scan_all(engine, scan, work)?;
     end(engine)
 }
 
@@ -116,20 +113,20 @@ pub(crate) fn measure_image<E: Engine>(
     rt: &HostRuntime,
     engine: &mut E,
     work: Work,
-    order: Order,
+    keys: Keys,
 ) -> Result<()> {
     let alloc = rt.alloc();
-    define_image(engine, alloc)?;
+    define_image(engine, alloc, keys)?;
     let start = Instant::now(rt)?;
-    insert_all(engine, alloc, work, order)?;
+    insert_all(engine, alloc, work, keys)?;
     let inserted = Instant::now(rt)?;
-    look_up_all(engine, alloc, work, order)?;
+    look_up_all(engine, alloc, work, keys)?;
     let found = Instant::now(rt)?;
-    scan_all(engine, work)?;
+    scan_image(engine, work)?;
     let scanned = Instant::now(rt)?;
     println!(rt;
         "rss-{} {} {} {}",
-        order.name(),
+        keys.name(),
         rate(work.tuples, inserted.duration_since(start)),
         rate(work.tuples, found.duration_since(inserted)),
         rate(work.tuples, scanned.duration_since(found))

@@ -1,14 +1,16 @@
-//! How fast the engine's calls are, made in-process over a file: commits of one insert, inserts in
-//! transactions of a batch with their commits, and fetches; and, over a relation with an image, inserts,
-//! look-ups and a scan. `examples/peers.sh` runs it beside other engines.
+//! How fast the engine's calls are, made in-process over a file: commits of one insert, inserts and
+//! updates in transactions of a batch with their commits, fetches, and a scan; and, over a relation with
+//! an image, inserts, look-ups and a scan. `examples/peers.sh` runs it beside other engines.
 #![tactic(auto)]
 
 mod images;
+mod tuples;
 
 ghost use Rattle.std.specs.Prelude.{◌≡◌, true};
 ghost use Rattle.rss_model.specs.Defining.{DefinesNames, LocksGranule};
 
-use crate::images::{Order, measure_image};
+use crate::images::{Keys, measure_image};
+use crate::tuples::measure_tuples;
 use anyhow::{Result, bail, ensure};
 use rss_base::{Call, FieldDef, FieldKind, Fields, Name, Reply, Tid, Tuple, Value};
 use rss_device::FileDevice;
@@ -17,7 +19,7 @@ use rss_stored::{CALLS_MOST, Engine};
 use std::alloc::Global;
 use std::env;
 use std::process::ExitCode;
-use std::time::{Clock, Duration, Instant};
+use std::time::Duration;
 
 /// How large the store is.
 const SLOTS: u32 = 65_536;
@@ -37,9 +39,6 @@ pub(crate) const FIELD: Name = Name {
     bytes: *b"a\0\0\0\0\0\0\0\0\0\0\0\0\0\0\0",
 };
 
-/// How many fetches are made.
-const FETCHES: u32 = 1_000_000;
-
 /// How many tuples there are to be, and how many inserts a transaction.
 #[derive(Clone, Copy)]
 pub(crate) struct Work {
@@ -52,8 +51,8 @@ pub(crate) struct Work {
 enum Measure {
     /// Tuples alone, with so many commits of one insert first.
     Tuples(u32),
-    /// A relation with an image, whose values come in this order.
-    Image(Order),
+    /// A relation with an image, whose keys are these.
+    Image(Keys),
 }
 
 /// Makes a call, where the engine may be asked for one more.
@@ -99,96 +98,46 @@ pub(crate) fn insert<E: Engine>(engine: &mut E, alloc: Global, value: u32) -> Re
     }
 }
 
-fn fetch<E: Engine>(engine: &mut E, tid: Tid) -> Result<i64> {
-    match ask(engine, &Call::Fetch(1, RELATION, tid))? {
-        Reply::Tuple(tuple) => match tuple.as_slice() {
-            [Value::Int(value)] => Ok(*value),
-            _ => bail!("a tuple of other fields"),
-        },
-        other => bail!("a fetch was answered {other:?}"),
-    }
-}
-
-/// Commits of one insert.
-fn commit_each<E: Engine>(
-    engine: &mut E,
-    alloc: Global,
-    commits: u32,
-    tids: &mut Vec<Tid>,
-) -> Result<()> {
-    for value in 0..commits {
-        begin(engine)?;
-        tids.push(insert(engine, alloc, value)?)?;
+/// Ends the transaction after the last call of its batch, of calls that are numbered from 0 on, and begins
+/// the next.
+pub(crate) fn end_of_batch<E: Engine>(engine: &mut E, call: u32, work: Work) -> Result<()> {
+    if call % work.batch.max(1) == work.batch.max(1) - 1 {
         end(engine)?;
+        begin(engine)?;
     }
     Ok(())
 }
 
-/// Inserts in transactions of a batch.
-fn commit_batches<E: Engine>(
-    engine: &mut E,
-    alloc: Global,
-    commits: u32,
-    work: Work,
-    tids: &mut Vec<Tid>,
-) -> Result<()> {
-    begin(engine)?;
-    for value in commits..work.tuples {
-        tids.push(insert(engine, alloc, value)?)?;
-        if (value + 1) % work.batch.max(1) == 0 {
-            end(engine)?;
-            begin(engine)?;
-        }
+/// The value of a tuple of one INT.
+pub(crate) fn one_value(tuple: &Tuple) -> Result<i64> {
+    match tuple.as_slice() {
+        [Value::Int(value)] => Ok(*value),
+        _ => bail!("a tuple of other fields"),
     }
-    end(engine)
 }
 
-/// Fetches of tuples that are far apart.
-fn fetch_some<E: Engine>(engine: &mut E, tids: &[Tid]) -> Result<()> {
-    begin(engine)?;
-    let mut place = 0;
-    for _ in 0..FETCHES {
-        let Some(tid) = tids.get(place) else {
-            bail!("no tuples");
-        };
-        let _ = fetch(engine, *tid)?;
-        place = (place + 7919) % tids.len().max(1);
+/// The next tuple's value, if there is one.
+pub(crate) fn next<E: Engine>(engine: &mut E, scan: u32) -> Result<Option<i64>> {
+    match ask(engine, &Call::Next(1, scan))? {
+        Reply::Row(_, tuple) => Ok(Some(one_value(&tuple)?)),
+        Reply::End => Ok(None),
+        other => bail!("a scan was answered {other:?}"),
     }
-    end(engine)
+}
+
+/// Goes through as many tuples of a scan as there are to be.
+pub(crate) fn scan_all<E: Engine>(engine: &mut E, scan: u32, work: Work) -> Result<()> {
+    for _ in 0..work.tuples {
+        if next(engine, scan)?.is_none() {
+            bail!("the scan ends early");
+        }
+    }
+    Ok(())
 }
 
 /// How many a second.
 pub(crate) fn rate(count: u32, time: Duration) -> u128 {
     u128::from(count) * 1_000_000_000 / time.as_nanos().max(1)
-}
-
-/// Does the work over an engine, and prints how many commits, inserts and fetches a second it makes.
-fn measure_tuples<E: Engine>(
-    rt: &HostRuntime,
-    engine: &mut E,
-    commits: u32,
-    work: Work,
-) -> Result<()> {
-    let alloc = rt.alloc();
-    define(engine, alloc)?;
-    let mut tids = Vec::new(alloc);
-    let start = Instant::now(rt)?;
-    commit_each(engine, alloc, commits, &mut tids)?;
-    let committed = Instant::now(rt)?;
-    commit_batches(engine, alloc, commits, work, &mut tids)?;
-    let inserted = Instant::now(rt)?;
-    fetch_some(engine, tids.as_slice())?;
-    let fetched = Instant::now(rt)?;
-    println!(rt;
-        "rss {} {} {}",
-        rate(commits, committed.duration_since(start)),
-        rate(
-            work.tuples.saturating_sub(commits),
-            inserted.duration_since(committed)
-        ),
-        rate(FETCHES, fetched.duration_since(inserted))
-    )?;
-    Ok(())
 }
 
 /// The file and the work that the words of the command line name.
@@ -200,8 +149,8 @@ fn read_words(words: &[String]) -> Option<(&str, Measure, Work)> {
         tuples: tuples.parse().ok()?,
         batch: batch.parse().ok()?,
     };
-    let measure = match Order::named(first.as_str()) {
-        Some(order) => Measure::Image(order),
+    let measure = match Keys::named(first.as_str()) {
+        Some(keys) => Measure::Image(keys),
         None => Measure::Tuples(first.parse().ok()?),
     };
     Some((file.as_str(), measure, work))
@@ -214,7 +163,7 @@ fn run(rt: &HostRuntime, file: &str, measure: Measure, work: Work) -> Result<()>
     let mut store = open(rt.alloc(), device, MOST_FRAMES).map_err(|unopened| unopened.fault)?;
     let measured = match measure {
         Measure::Tuples(commits) => measure_tuples(rt, &mut store, commits, work),
-        Measure::Image(order) => measure_image(rt, &mut store, work, order),
+        Measure::Image(keys) => measure_image(rt, &mut store, work, keys),
     };
     let _ = store.into_pages().into_device();
     measured
@@ -223,7 +172,7 @@ fn run(rt: &HostRuntime, file: &str, measure: Measure, work: Work) -> Result<()>
 fn main(rt: HostRuntime) -> Result<ExitCode> {
     let words: Vec<String> = env::args(&rt)?.collect(rt.alloc())?;
     let Some((file, measure, work)) = read_words(words.as_slice()) else {
-        eprintln!(&rt; "usage: rss_speed FILE COMMITS|rising|scattered TUPLES BATCH")?;
+        eprintln!(&rt; "usage: rss_speed FILE COMMITS|rising|scattered|unique TUPLES BATCH")?;
         return Ok(ExitCode::from(1));
     };
     run(&rt, file, measure, work)?;
