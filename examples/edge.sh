@@ -236,14 +236,14 @@ report "the reader of the replies goes after a commit" "$faults$(faults_of "$fir
 
 # Words that are no command, and none, as the launcher and as the program itself tests them.
 for words in "" run "run -a" "format a 64" "format a 064 8" "gen 1 0" "gen 1 100001" "gen 18446744073709551616 1" \
-    "trial a 1" "trial a 1 01"; do
+    "trial a 1" "trial a 1 01" talk "talk a b"; do
     for command in "$rss" "$top/crates/rss_program/out/rss_program"; do
         status=0
         # shellcheck disable=SC2086
         "$command" $words >replies 2>errors || status=$?
         faults=""
         if [ "$status" != 1 ]; then faults=" status $status;"; fi
-        if ! grep -qx 'usage: rss format FILE N G | run FILE | gen NUMBER COUNT | trial FILE NUMBER COUNT' errors; then faults+=" no usage line;"; fi
+        if ! grep -qx 'usage: rss format FILE N G | run FILE | gen NUMBER COUNT | trial FILE NUMBER COUNT | talk FILE' errors; then faults+=" no usage line;"; fi
         report "${command##*/} $words" "$faults"
     done
 done

@@ -127,7 +127,7 @@ memory="$(awk '/^MemAvailable:/ { print int($2 / 3000000) }' /proc/meminfo)"
 if [ "$memory" -lt "$jobs" ]; then jobs="$memory"; fi
 if [ "$jobs" -lt 1 ]; then jobs=1; fi
 first_use="rss_restart: all check --jobs $jobs"$'\n'"rss_program: run -- format FILE 64 8"
-usage="usage: rss format FILE N G | run FILE | gen NUMBER COUNT | trial FILE NUMBER COUNT"
+usage="usage: rss format FILE N G | run FILE | gen NUMBER COUNT | trial FILE NUMBER COUNT | talk FILE"
 echo proves >how
 
 # Words that are no command, before any proof.
@@ -157,6 +157,10 @@ gen -1 1
 gen 18446744073709551616 1
 trial a 1
 trial a 1 01
+talk
+talk a b
+talk -a
+talk a -k
 help me
 --version now
 END
@@ -169,7 +173,7 @@ mv errors help
 for words in --help -h help; do
     try "$words"
     faults="$(faults_of 0 "$(cat help)" "" "")"
-    for part in "format FILE N G " "run FILE " "run FILE -k " "gen NUMBER COUNT " "trial FILE NUMBER COUNT " \
+    for part in "format FILE N G " "run FILE " "run FILE -k " "gen NUMBER COUNT " "trial FILE NUMBER COUNT " "talk FILE " \
         "run my.store < " docs/SCRIPT.md; do
         if ! grep -qF -- "$part" replies; then faults+=" it does not tell $part;"; fi
     done
@@ -276,6 +280,7 @@ ends 4 "none: no such file" "to make it a store, checkout/rss format none 64 8" 
 ends 5 "hello: not a store, or none of this kind: its layout is out of form; nothing was written to it" \
     "if it was one, go back to a copy; to make it an empty one, checkout/rss format hello 64 8" run hello <script
 ends 3 "standard output failed" "the store is made" format a 64 8
+ends 3 "standard output failed" "each line that has its reply was run, and the next one may have been" talk there
 ends 8 "N is 64 to 65536 and G is 8 to 4096; nothing was touched" \
     "how large a store should be is in checkout/docs/SCRIPT.md" format a 1 8
 status=0
