@@ -9,6 +9,7 @@ use Rattle.std.proofs.lemmas.List.{take_at, append_assoc, length-replicate, get_
 use Rattle.rss_base.specs.Names.{IsName}
 use Rattle.rss_base.specs.Listings.{Listing, ImageFits, image_spelled, flag_byte}
 use Rattle.rss_base.specs.declared.image.ImageEntry.{ImageEntry}
+use Rattle.rss_catalog.specs.Defined.{unrooted, IsRooted}
 use Rattle.rss_catalog.specs.Reading.{image_entry_of, image_of}
 use Rattle.rss_catalog.proofs.Spelled.{name_long, name_begins, behind, drop_behind}
 
@@ -93,5 +94,5 @@ put_image image old one two three four new flag now_one same now_two now_three n
     now ∙ ap (λ (l : List ℕ). l ++ replicate 24 0) (now_four ∙ ap (λ (l : List ℕ). l ++ image.fields) (now_three ∙ ap (λ (l : List ℕ). l ++ to_be_bytes w32 image.root) now_two)) ∙ (λ i. ((((now_one i ++ image.relation ∷ same i ∷ image.count ∷ image.levels ∷ []) ++ to_be_bytes w32 image.root) ++ image.fields) ++ replicate (zeros i) 0)) ∙ simp append_assoc
 
 -- an image that may be listed is one
-pub drawn_of : (listing : Listing) (image : ImageEntry) → ImageFits listing image → IsDrawn image
-drawn_of listing image fits = record { name = fits.name; long = fits.long; root = fits.root }
+pub drawn_of : (listing : Listing) (image : ImageEntry) → ImageFits listing (unrooted image) → IsRooted image → IsDrawn image
+drawn_of listing image fits rooted = record { name = fits.name; long = fits.long; root = rooted.root }

@@ -10,8 +10,11 @@ pub mod Spelled
 pub mod Imaged
 pub mod Linked
 pub mod Read
-pub mod Loaded
+pub mod PagesRead
 pub mod Stored
+pub mod Fronts
 pub mod Tested
+pub mod Completed
+pub mod Flawed
 pub mod Keyed
 pub mod Same

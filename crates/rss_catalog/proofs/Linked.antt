@@ -1,16 +1,17 @@
 -- How many bytes a link has in the catalog, and what those bytes read as.
 use Rattle.std.proofs.Common.{◌≡◌, ℕ, ◌+◌, ◌-◌, false, List, [], ◌∷◌, ◌++◌, length, take, drop, get_or, replicate, Option, Some, None, refl, ◌∙◌, ap, arith, length-append}
-use Rattle.std.specs.Prelude.{◌==◌, IfSome}
+use Rattle.std.specs.Prelude.{◌==◌, ◌&&◌, IfSome}
 use Rattle.std.specs.Int.{w16, w32, from_be_bytes}
 use Rattle.std.proofs.lemmas.Nat.{from_be_bytes-to_be_bytes_2, from_be_bytes-to_be_bytes_4}
-use Rattle.std.proofs.lemmas.Bool.{cond-false, ne_eqb}
+use Rattle.std.proofs.lemmas.Bool.{cond-false, and_parts, eqb-true, false_from_ne_true}
 use Rattle.std.proofs.lemmas.List.{take_at, drop_at, append_assoc, length-replicate, get_or_append_left, get_or-append-add}
 use Rattle.std.proofs.Math.Seq.{drop-append-add}
 use Rattle.rss_base.specs.Names.{IsName}
 use Rattle.rss_base.specs.LogRecords.{place_bytes}
-use Rattle.rss_base.specs.Listings.{Listing, LinkFits, IsSpelled, link_spelled, parent_spelled, flag_byte}
+use Rattle.rss_base.specs.Listings.{Listing, LinkFits, link_spelled, parent_spelled, flag_byte}
 use Rattle.rss_base.specs.declared.link.LinkEntry.{LinkEntry}
 use Rattle.rss_base.specs.declared.tid.Tid.{Tid}
+use Rattle.rss_catalog.specs.Defined.{endless, IsInBytes, IsEnded}
 use Rattle.rss_catalog.specs.Reading.{parent_of, tid_of, place_of, link_entry_of, link_of}
 use Rattle.rss_catalog.proofs.Spelled.{name_long, name_begins, behind, drop_behind}
 use Rattle.rss_catalog.proofs.Imaged.{flag_back}
@@ -18,8 +19,7 @@ use Rattle.rss_catalog.proofs.Imaged.{flag_back}
 -- a link as far as it is spelled
 pub record IsTied (link : LinkEntry) : Type 0 where
   pub name : IsName link.name
-  pub first : IfSome link.first IsSpelled
-  pub last : IfSome link.last IsSpelled
+  pub ended : IsEnded link
 
 abbrev pub AreTied : Option LinkEntry → Type 0
 AreTied link = (entry : LinkEntry) → link ≡ Some entry → IsTied entry
@@ -30,12 +30,18 @@ pub place_long : (place : Option Tid) → length (place_bytes place) ≡ 6
 place_long None = refl
 place_long (Some tid) = refl
 
-place_back : (place : Option Tid) → IfSome place IsSpelled → place_of (place_bytes place) ≡ place
+-- no identifier in six bytes has the bytes of none
+not_none : (tid : Tid) → IsInBytes tid → ((tid.page == 4294967295) && (tid.slot == 65535)) ≡ false
+not_none tid is = false_from_ne_true _ (λ both.
+    let parts = and_parts (tid.page == 4294967295) (tid.slot == 65535) both in
+    is.some (λ i. record { page = eqb-true tid.page 4294967295 parts.0 i; slot = eqb-true tid.slot 65535 parts.1 i }))
+
+place_back : (place : Option Tid) → IfSome place IsInBytes → place_of (place_bytes place) ≡ place
 place_back None is = refl
 place_back (Some tid) is =
-    let page : from_be_bytes w32 (take 4 (place_bytes (Some tid))) ≡ tid.page = from_be_bytes-to_be_bytes_4 tid.page is.0 in
-    let slot : from_be_bytes w16 (take 2 (drop 4 (place_bytes (Some tid)))) ≡ tid.slot = from_be_bytes-to_be_bytes_2 tid.slot (omega (arith, is.1)) in
-    (λ i. tid_of (page i) (slot i)) ∙ cond-false (tid.slot == 65535) None (Some tid) (ne_eqb tid.slot 65535 (λ same. omega (arith, is.1, same)))
+    let page : from_be_bytes w32 (take 4 (place_bytes (Some tid))) ≡ tid.page = from_be_bytes-to_be_bytes_4 tid.page is.page in
+    let slot : from_be_bytes w16 (take 2 (drop 4 (place_bytes (Some tid)))) ≡ tid.slot = from_be_bytes-to_be_bytes_2 tid.slot is.slot in
+    (λ i. tid_of (page i) (slot i)) ∙ cond-false ((tid.page == 4294967295) && (tid.slot == 65535)) None (Some tid) (not_none tid is)
 
 parent_long : (parent : Option ℕ) → length (parent_spelled parent) ≡ 2
 parent_long None = refl
@@ -99,8 +105,8 @@ entry_back entry tied =
     let late : (get_or (name ++ tail) 19 0 == 1) ≡ entry.late = ap (λ (n : ℕ). n == 1) (behind name tail 19 3 long refl ∙ past_parent entry.parent rest 1) ∙ flag_back entry.late in
     let at_first : drop 20 (name ++ tail) ≡ first = drop_behind name tail 20 4 long refl ∙ drop_parent entry.parent rest 2 in
     let at_last : drop 26 (name ++ tail) ≡ last = drop_behind name tail 26 10 long refl ∙ drop_parent entry.parent rest 8 ∙ drop_at (place_bytes entry.first) last 6 (place_long entry.first) in
-    let one : place_of (take 6 (drop 20 (name ++ tail))) ≡ entry.first = ap (λ (l : List ℕ). place_of (take 6 l)) at_first ∙ ap place_of (take_at (place_bytes entry.first) last 6 (place_long entry.first)) ∙ place_back entry.first tied.first in
-    let two : place_of (take 6 (drop 26 (name ++ tail))) ≡ entry.last = ap (λ (l : List ℕ). place_of (take 6 l)) at_last ∙ ap place_of (take_at (place_bytes entry.last) zeros 6 (place_long entry.last)) ∙ place_back entry.last tied.last in
+    let one : place_of (take 6 (drop 20 (name ++ tail))) ≡ entry.first = ap (λ (l : List ℕ). place_of (take 6 l)) at_first ∙ ap place_of (take_at (place_bytes entry.first) last 6 (place_long entry.first)) ∙ place_back entry.first tied.ended.first in
+    let two : place_of (take 6 (drop 26 (name ++ tail))) ≡ entry.last = ap (λ (l : List ℕ). place_of (take 6 l)) at_last ∙ ap place_of (take_at (place_bytes entry.last) zeros 6 (place_long entry.last)) ∙ place_back entry.last tied.ended.last in
     ap link_entry_of (whole_of entry)
     ∙ (λ i. record { name = record { bytes = take_at name tail 16 long i }; parent = parent i; child = child i; late = late i; first = one i; last = two i })
 
@@ -128,5 +134,5 @@ put_link link old one two three four five new flag now_one now_two same now_thre
     ∙ (λ i. (((((now_one i ++ parent_spelled link.parent) ++ link.child ∷ same i ∷ []) ++ place_bytes link.first) ++ place_bytes link.last) ++ replicate (zeros i) 0)) ∙ simp append_assoc
 
 -- a link that may be listed is one
-pub tied_of : (listing : Listing) (link : LinkEntry) → LinkFits listing link → IsTied link
-tied_of listing link fits = record { name = fits.name; first = fits.first; last = fits.last }
+pub tied_of : (listing : Listing) (link : LinkEntry) → LinkFits listing (endless link) → IsEnded link → IsTied link
+tied_of listing link fits ended = record { name = fits.name; ended = ended }

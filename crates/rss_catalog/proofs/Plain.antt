@@ -23,11 +23,11 @@ pub none_where : {A : Type 0} (items : List (Option A)) (count : ℕ) → length
 none_where {A = A} items count long none = same_lists items (replicate count None) (long ∙ sym (length-replicate {A = Option A} count None)) (λ k d low.
     get_or_default items k d None low ∙ ap (λ (n : ℕ). get_or items n None) (omega arith) ∙ sym (numbered_at items (k + 1) (omega arith) (omega (arith, low))) ∙ none (k + 1) (omega arith) ∙ sym (get_or-replicate count k None d (omega (arith, long, low))))
 
-none_named : {A B : Type 0} (f : A → B) (items : List (Option A)) (count number : ℕ) (name : B) → items ≡ replicate count None → numbered (map (option_map f) items) number ≡ Some name → ⊥
+pub none_named : {A B : Type 0} (f : A → B) (items : List (Option A)) (count number : ℕ) (name : B) → items ≡ replicate count None → numbered (map (option_map f) items) number ≡ Some name → ⊥
 none_named {A = A} f items count number name none is =
     none-some name (sym (numbered_map f items number ∙ ap (λ (l : List (Option A)). option_map f (numbered l number)) none ∙ ap (option_map f) (none_numbered count number)) ∙ is)
 
-no_roles : (number count : ℕ) → count_by (has_role number) (replicate count None) ≡ 0
+pub no_roles : (number count : ℕ) → count_by (has_role number) (replicate count None) ≡ 0
 no_roles number zero = refl
 no_roles number (suc count) = no_roles number count
 

@@ -7,7 +7,8 @@ use Rattle.rss_base.specs.Listings.{Listing, LinkFits, numbered, with_number, re
 use Rattle.rss_base.specs.declared.link.LinkEntry.{LinkEntry}
 use Rattle.rss_base.specs.declared.relation.RelationEntry.{RelationEntry}
 use Rattle.rss_catalog.specs.Catalogs.{HasRoleLeft, IsSafeLink}
-use Rattle.rss_catalog.specs.Checking.{AreLinksIn, HaveFewRoles, LinkFitsIn, listing_of}
+use Rattle.rss_catalog.specs.Defined.{endless}
+use Rattle.rss_catalog.specs.Checking.{AreLinksIn, HaveFewRoles, IsLinkIn, listing_of}
 use Rattle.rss_catalog.proofs.Numbered.{numbered_at, numbered_within, has_number, used_has}
 use Rattle.rss_catalog.proofs.Counts.{counts_none}
 
@@ -74,9 +75,9 @@ abbrev bit : ℕ → Option LinkEntry → ℕ
 bit number link = cond (has_role number link) 1 0
 
 -- what is no relation is in no link
-part_off : (entries : List (Option RelationEntry)) (number : ℕ) (link : Option LinkEntry) → ((entry : LinkEntry) → link ≡ Some entry → LinkFitsIn entries entry) → (is_some (numbered entries number) ≡ true → ⊥) → has_role number link ≡ false
+part_off : (entries : List (Option RelationEntry)) (number : ℕ) (link : Option LinkEntry) → ((entry : LinkEntry) → link ≡ Some entry → IsLinkIn entries entry) → (is_some (numbered entries number) ≡ true → ⊥) → has_role number link ≡ false
 part_off entries number None fit none = refl
-part_off entries number (Some link) fit none = false_from_ne_true _ (λ has. none (role_listed (listing_of [] entries [] []) link number (safe_link _ link (fit link refl)) has))
+part_off entries number (Some link) fit none = false_from_ne_true _ (λ has. none (role_listed (listing_of [] entries [] []) (endless link) number (safe_link _ (endless link) (fit link refl).fits) has))
 
 pub roles_off : (entries : List (Option RelationEntry)) (links : List (Option LinkEntry)) (number : ℕ) → AreLinksIn entries links → (is_some (numbered entries number) ≡ true → ⊥) → count_by (has_role number) links ≡ 0
 roles_off entries links number each none = counts_none (has_role number) links (λ k d low. part_off entries number (get_or links k d) (λ entry is. each (k + 1) entry (has_number links k d entry low is)) none)

@@ -1,15 +1,16 @@
 -- What is asked of a listing, by parts.
-use Rattle.std.specs.Prelude.{◌≡◌, ℕ, ◌-◌, ◌≤◌, ◌++◌, List, [], length, Contains, All, map, replicate, option_map, count_by, Option, Some, is_some, true, false, Bool}
-use Rattle.rss_base.specs.Sizes.{roles_most}
+use Rattle.std.specs.Prelude.{◌≡◌, ℕ, ◌-◌, ◌*◌, ◌<◌, ◌≤◌, ◌++◌, List, [], length, Contains, All, map, replicate, option_map, count_by, Option, Some, is_some, true, false, Bool}
+use Rattle.rss_base.specs.Sizes.{roles_most, relations_most, images_most}
 use Rattle.rss_base.specs.Names.{IsName}
 use Rattle.rss_base.specs.TupleTypes.{kinds, chosen, key_width, most_key_width, most_fields}
-use Rattle.rss_base.specs.Listings.{Listing, numbered, EntryFits, ImageFits, LinkFits, IsFieldNumber, AreDifferent, field_numbers, has_role, added_count}
+use Rattle.rss_base.specs.Listings.{Listing, numbered, EntryFits, ImageFits, LinkFits, IsFieldNumber, AreDifferent, field_numbers, has_role, added_count, relations_of_page, relation_pages, images_of_page}
 use Rattle.rss_base.specs.declared.name.Name.{Name}
 use Rattle.rss_base.specs.declared.field.FieldDef.{FieldDef}
 use Rattle.rss_base.specs.declared.relation.RelationEntry.{RelationEntry}
 use Rattle.rss_base.specs.declared.image.ImageEntry.{ImageEntry}
 use Rattle.rss_base.specs.declared.link.LinkEntry.{LinkEntry}
 use Rattle.rss_catalog.specs.Catalogs.{IsSafeLink}
+use Rattle.rss_catalog.specs.Defined.{unrooted, endless, tuples_most, IsRooted, IsEnded, front}
 
 -- these are listed
 abbrev pub listing_of : List (Option Name) → List (Option RelationEntry) → List (Option ImageEntry) → List (Option LinkEntry) → Listing
@@ -45,29 +46,44 @@ IsTaken items item = (name : Name) × (item ≡ Some name) × Contains items (So
 abbrev pub FitsIn : List (Option Name) → RelationEntry → Type 0
 FitsIn names entry = EntryFits (listing_of names [] [] []) entry
 
+-- and has no more tuples than a relation may have
+pub record IsRelationIn (names : List (Option Name)) (entry : RelationEntry) : Type 0 where
+  pub fits : FitsIn names entry
+  pub few : entry.live ≤ tuples_most
+
 -- so does the relation at a place, if there is one
 abbrev pub MayStand : List (Option Name) → Option RelationEntry → Type 0
-MayStand names relation = (entry : RelationEntry) → relation ≡ Some entry → FitsIn names entry
+MayStand names relation = (entry : RelationEntry) → relation ≡ Some entry → IsRelationIn names entry
 
 -- the image fits a listing of these relations
 abbrev pub ImageFitsIn : List (Option RelationEntry) → ImageEntry → Type 0
 ImageFitsIn entries image = ImageFits (listing_of [] entries [] []) image
 
+-- and does so whatever its root and its levels
+pub record IsImageIn (entries : List (Option RelationEntry)) (image : ImageEntry) : Type 0 where
+  pub fits : ImageFitsIn entries (unrooted image)
+  pub rooted : IsRooted image
+
 -- so does the image at a place, if there is one
 abbrev pub MayIndex : List (Option RelationEntry) → Option ImageEntry → Type 0
-MayIndex entries image = (entry : ImageEntry) → image ≡ Some entry → ImageFitsIn entries entry
+MayIndex entries image = (entry : ImageEntry) → image ≡ Some entry → IsImageIn entries entry
 
 -- the link fits a listing of these relations
 abbrev pub LinkFitsIn : List (Option RelationEntry) → LinkEntry → Type 0
 LinkFitsIn entries link = LinkFits (listing_of [] entries [] []) link
 
+-- and does so whatever its ends
+pub record IsLinkIn (entries : List (Option RelationEntry)) (link : LinkEntry) : Type 0 where
+  pub fits : LinkFitsIn entries (endless link)
+  pub ended : IsEnded link
+
 -- so does the link at a place, if there is one
 abbrev pub MayLink : List (Option RelationEntry) → Option LinkEntry → Type 0
-MayLink entries link = (entry : LinkEntry) → link ≡ Some entry → LinkFitsIn entries entry
+MayLink entries link = (entry : LinkEntry) → link ≡ Some entry → IsLinkIn entries entry
 
 -- so do all of these links
 abbrev pub AreLinksIn : List (Option RelationEntry) → List (Option LinkEntry) → Type 0
-AreLinksIn entries links = (number : ℕ) (link : LinkEntry) → numbered links number ≡ Some link → LinkFitsIn entries link
+AreLinksIn entries links = (number : ℕ) (link : LinkEntry) → numbered links number ≡ Some link → IsLinkIn entries link
 
 -- the numbers of some of these fields, none of them twice, and their key is not too wide
 pub record IsKeyOf (fields : List FieldDef) (numbers : List ℕ) : Type 0 where
@@ -87,12 +103,12 @@ pub record TablesFit (names : List (Option Name)) (entries : List (Option Relati
   pub names_fit : AreNames names
   pub names_once : AreOnce names
   pub relations_once : AreOnce (relation_names entries)
-  pub relations : (number : ℕ) (entry : RelationEntry) → numbered entries number ≡ Some entry → FitsIn names entry
+  pub relations : (number : ℕ) (entry : RelationEntry) → numbered entries number ≡ Some entry → IsRelationIn names entry
 
 -- the images of a listing
 pub record ImagesFit (entries : List (Option RelationEntry)) (images : List (Option ImageEntry)) : Type 0 where
   pub once : AreOnce (image_names images)
-  pub each : (number : ℕ) (image : ImageEntry) → numbered images number ≡ Some image → ImageFitsIn entries image
+  pub each : (number : ℕ) (image : ImageEntry) → numbered images number ≡ Some image → IsImageIn entries image
 
 -- each of these links is safe beside these relations
 abbrev pub AreSafeLinks : List (Option RelationEntry) → List (Option LinkEntry) → Type 0
@@ -135,3 +151,19 @@ pub record IsSafeIn (entries : List (Option RelationEntry)) (image : ImageEntry)
 -- so may all of these images
 abbrev pub AreSafeIn : List (Option RelationEntry) → List (Option ImageEntry) → Type 0
 AreSafeIn entries images = (number : ℕ) (image : ImageEntry) → numbered images number ≡ Some image → IsSafeIn entries image
+
+-- ---- up to which page
+
+-- The first number up to which these don't fit, or the end, if they fit up to it.
+pub record IsFirstBad (Fits : ℕ → Type 0) (end found : ℕ) : Type 0 where
+  pub within : found ≤ end
+  pub not : found < end → Fits found → ⊥
+  pub before : (k : ℕ) → k < found → Fits k
+
+-- the relations of the pages up to this one fit
+abbrev pub TablesFitTo : List (Option Name) → List (Option RelationEntry) → ℕ → Type 0
+TablesFitTo names entries page = TablesFit names (front relations_most (relations_of_page * page) entries)
+
+-- the images of the pages up to this one fit
+abbrev pub ImagesFitTo : List (Option RelationEntry) → List (Option ImageEntry) → ℕ → Type 0
+ImagesFitTo entries images page = ImagesFit entries (front images_most (images_of_page * (page - relation_pages)) images)

@@ -1,5 +1,5 @@
 -- What bytes of the catalog read as, whether or not they are in form: what was read is in form where it is spelled by the same bytes.
-use Rattle.std.specs.Prelude.{◌≡◌, ℕ, ◌+◌, ◌-◌, ◌*◌, ◌≤◌, ◌==◌, Bool, zero, suc, min, nat_le, if◌then◌else◌, List, [], ◌∷◌, ◌++◌, length, replicate, flat_map, take, drop, slice_index, Option, Some, None}
+use Rattle.std.specs.Prelude.{◌≡◌, ℕ, ◌+◌, ◌-◌, ◌*◌, ◌≤◌, ◌==◌, ◌&&◌, Bool, zero, suc, min, nat_le, if◌then◌else◌, List, [], ◌∷◌, ◌++◌, length, replicate, flat_map, take, drop, slice_index, Option, Some, None}
 use Rattle.std.specs.Int.{w16, w32, to_be_bytes, from_be_bytes}
 use Rattle.rss_base.specs.Names.{name_bytes}
 use Rattle.rss_base.specs.TupleTypes.{most_fields}
@@ -89,9 +89,9 @@ image_of bytes = if slice_index bytes 0 == 0 then None else Some (image_entry_of
 abbrev pub parent_of : ℕ → ℕ → Option ℕ
 parent_of code parent = if code == 2 then Some parent else None
 
--- no slot has the number of two bytes of 255
+-- six bytes of 255 are no identifier
 abbrev pub tid_of : ℕ → ℕ → Option Tid
-tid_of page slot = if slot == 65535 then None else Some (record { page = page; slot = slot })
+tid_of page slot = if (page == 4294967295) && (slot == 65535) then None else Some (record { page = page; slot = slot })
 
 abbrev pub place_of : List ℕ → Option Tid
 place_of bytes = tid_of (from_be_bytes w32 (take 4 bytes)) (from_be_bytes w16 (take 2 (drop 4 bytes)))

@@ -5,8 +5,8 @@ ghost use Rattle.rss_base.specs.Looking.{ChecksPages};
 ghost use Rattle.rss_base.specs.Names.{IsName};
 ghost use Rattle.rss_base.specs.Sizes.{segments as segments_most, relations_most, images_most, links_most, system_pages};
 ghost use Rattle.rss_base.specs.Steps.{PagesCall, no_page};
-ghost use Rattle.rss_base.specs.Listings.{Listing, numbered, names_of, segment_at, relation_at, image_at, link_at, IsNumberOf, IsUnlisted};
-ghost use Rattle.rss_base.specs.Listings.{IsLeastUnused, AreAllUsed, EntryFits, ImageFits, LinkFits, IsSpelled, ListingFits, HoldsListing};
+ghost use Rattle.rss_base.specs.Listings.{numbered, names_of, segment_at, relation_at, image_at, link_at, IsNumberOf, IsUnlisted};
+ghost use Rattle.rss_base.specs.Listings.{IsLeastUnused, AreAllUsed, EntryFits, ImageFits, LinkFits, IsSpelled, ListingFits};
 ghost use Rattle.rss_base.specs.Listings.{no_listing, with_segment, with_relation, with_image, with_link, with_count, with_root, roles_of, SuitsVersion, catalog_page};
 ghost use Rattle.rss_base.specs.declared.fault.PageFault.TheVariants.{Damaged as PageDamaged};
 ghost use Rattle.rss_base.specs.declared.name.Name.{Name as AnyName};
@@ -18,17 +18,18 @@ ghost use Rattle.rss_base.specs.declared.refusal.Kind.TheVariants.{Segment, Rela
 ghost use Rattle.rss_catalog.specs.Catalogs.{none_pending, pending_pages, page_of, Loads, IsCatalogPlace};
 ghost use Rattle.rss_catalog.specs.Catalogs.{StoresListing, HasSystemPages, Lists, without, HasNoLesser, HasRelationIn, HasImageOf, IsNamedIn};
 ghost use Rattle.rss_catalog.specs.Catalogs.{IsSafe, IsSafeImage, IsSafeLink, HasLinkOf, HasRoleLeft, with_ends};
-ghost use Rattle.rss_catalog.specs.Checking.{AreSafeIn, AreSafeLinks};
+ghost use Rattle.rss_catalog.specs.Checking.{AreSafeIn, AreSafeLinks, listing_of};
+ghost use Rattle.rss_catalog.specs.Defined.{AreDefinitions, IsCatalogOf, LoadsDefined, NamesFirst};
 ghost use Rattle.std.proofs.Props.{props};
 
-use crate::checking::{are_all_early, are_all_original, flaw};
+use crate::checking::{are_all_early, are_all_original, first_bad};
 use crate::encoding::{
     IMAGES_OF_PAGE, RELATIONS_OF_PAGE, images_page, links_page, relations_page, segments_page,
 };
-use crate::entries::{has_entry_of, roles_in};
+use crate::entries::{first_wrong, has_entry_of, mend, roles_in};
 use crate::loading::{
-    IMAGE_PAGES, LINK_PAGE, LINK_PAGES, RELATION_PAGES, damaged, key_of, load_entries,
-    load_segments,
+    IMAGE_PAGE, IMAGE_PAGES, LINK_PAGE, LINK_PAGES, PAGE_COUNT, RELATION_PAGES, damaged,
+    first_unmapped, key_of, load_entries, load_segments,
 };
 use rss_base::{
     IMAGES_MOST, ImageEntry, Kind, LINKS_MOST, LinkEntry, Name, Page, PageFault, Pages,
@@ -71,7 +72,7 @@ fn free_places<T: Drop>(alloc: Global, count: u8) -> Result<Vec<Option<T>>, Allo
     Ok(places)
 }
 
-/// What has this number, if anything does.
+/// What has the number `number`, if anything does.
 pub(crate) fn at<T>(items: &[Option<T>], number: u8) -> Option<&T>
     ensures some { IfSome result (λ item. numbered items.now number ≡ Some item.now) }
     ensures none { IfNone result (numbered items.now number ≡ None) }
@@ -83,7 +84,7 @@ pub(crate) fn at<T>(items: &[Option<T>], number: u8) -> Option<&T>
     items[number - 1].as_ref()
 }
 
-/// The number of the last of these, or 0 where there is none.
+/// The number of the last of these, or 0 if there is none.
 fn last_used<T>(items: &[Option<T>]) -> u8
     requires { length items.now ≤ images_most }
     ensures none { (number : ℕ) → result < number → numbered items.now number ≡ None }
@@ -108,7 +109,7 @@ pub struct Catalog {
     /// No image has a number above this one.
     last_image: u8,
     links: Vec<Option<LinkEntry>>,
-    /// The number of the last link, or 0 where there is none.
+    /// The number of the last link, or 0 if there is none.
     last_link: u8,
     /// Which pages have changed since they were written.
     pending: [bool; PAGES],
@@ -141,6 +142,50 @@ impl Model for Catalog {
     } };
 }
 
+/// A catalog that was loaded. An image whose tree has no levels has one in it, and a link of which an
+/// end is no entry of a page has none.
+#[derive(Drop)]
+pub struct Loaded {
+    pub catalog: Catalog,
+    /// The number of the first image that has no levels.
+    pub image: Option<u8>,
+    /// The number of the first link of which an end is no entry of a page.
+    pub link: Option<u8>,
+}
+
+/// The catalog of what was read.
+fn completed(
+    segments: Vec<Option<Name>>,
+    relations: Vec<Option<RelationEntry>>,
+    mut images: Vec<Option<ImageEntry>>,
+    mut links: Vec<Option<LinkEntry>>,
+) -> Loaded
+    requires { AreDefinitions (listing_of segments.items relations.items images.items links.items) }
+    ensures { IsCatalogOf (listing_of segments.items relations.items images.items links.items)
+        result.catalog result.image result.link }
+{
+    let image = first_wrong(&images);
+    let link = first_wrong(&links);
+    mend(&mut images);
+    mend(&mut links);
+    let last_image = last_used(&images);
+    let last_link = last_used(&links);
+    let catalog = Catalog {
+        segments,
+        relations,
+        images,
+        last_image,
+        links,
+        last_link,
+        pending: [false; PAGES],
+    };
+    Loaded {
+        catalog,
+        image,
+        link,
+    }
+}
+
 impl Catalog {
     /// Nothing is defined.
     pub fn empty(alloc: Global) -> Result<Self, AllocError>
@@ -158,39 +203,49 @@ impl Catalog {
         })
     }
 
-    /// The catalog in the pages of the system space. `Damaged` names one of them that isn't there or
-    /// isn't in form: an entry that isn't spelled as `docs/CATALOG.md` says, a name that stands twice,
-    /// a relation of no segment or with fields that no relation has, an image of no relation or with
-    /// a key that no image has, a link of no relation or whose parents are its children, a relation
-    /// of too many links.
-    pub fn load<P: Pages>(alloc: Global, pages: &mut P) -> Result<Self, PageFault>
-        ensures loaded { IfOk result (λ catalog. Loads (P.view pages.old) catalog) }
-        ensures flawed { (place : AnyPlace) → result ≡ Err (PageDamaged place)
-            → IsTold (P.view pages.old).disk → (listing : Listing) → ListingFits listing
-            → HoldsListing (P.view pages.old).held listing → ⊥ }
+    /// The catalog in the pages of the system space. `Damaged` names the first of them that isn't
+    /// there, or, if all are there, the first one that isn't in form. Out of form are an entry that
+    /// isn't spelled as `docs/CATALOG.md` says, and a name that stands twice up to there. So is a
+    /// relation of no segment, with fields that no relation has or with more than 2^20 tuples. So are
+    /// an image of no relation or with a key that no image has, a link of no relation or whose
+    /// parents are its children, and a relation of too many links.
+    pub fn load<P: Pages>(alloc: Global, pages: &mut P) -> Result<Loaded, PageFault>
+        ensures finds { IfOk result (λ loaded.
+            LoadsDefined (P.view pages.old) loaded.catalog loaded.image loaded.link) }
+        ensures loaded { IfOk result (λ loaded. loaded.image ≡ None → loaded.link ≡ None
+            → Loads (P.view pages.old) loaded.catalog) }
+        ensures first { (place : AnyPlace) → result ≡ Err (PageDamaged place)
+            → IsTold (P.view pages.old).disk → NamesFirst (P.view pages.old).held place }
         ensures named { (place : AnyPlace) → result ≡ Err (PageDamaged place)
             → IsCatalogPlace place }
         ensures did { ChecksPages no_page system_pages
             (P.view pages.old) (P.view pages.new) result }
     {
-        let segments = load_segments(alloc, pages)?;
-        let relations = load_entries::<RelationEntry, P>(alloc, pages, 1, RELATION_PAGES)?;
-        let images = load_entries::<ImageEntry, P>(alloc, pages, 1 + RELATION_PAGES, IMAGE_PAGES)?;
-        let links = load_entries::<LinkEntry, P>(alloc, pages, LINK_PAGE, LINK_PAGES)?;
-        if let Some(page) = flaw(&segments, &relations, &images, &links) {
+        if let Some(page) = first_unmapped(pages) {
             return Err(damaged(page));
         }
-        let last_image = last_used(&images);
-        let last_link = last_used(&links);
-        Ok(Catalog {
-            segments,
-            relations,
-            images,
-            last_image,
-            links,
-            last_link,
-            pending: [false; PAGES],
-        })
+        let mut right = 0;
+        let segments = load_segments(alloc, pages, &mut right)?;
+        let relations = load_entries::<RelationEntry, P>(
+            alloc,
+            pages,
+            1,
+            RELATION_PAGES,
+            &mut right,
+        )?;
+        let images = load_entries::<ImageEntry, P>(
+            alloc,
+            pages,
+            IMAGE_PAGE,
+            IMAGE_PAGES,
+            &mut right,
+        )?;
+        let links = load_entries::<LinkEntry, P>(alloc, pages, LINK_PAGE, LINK_PAGES, &mut right)?;
+        let page = first_bad(&segments, &relations, &images, &links).min(right);
+        if page < PAGE_COUNT {
+            return Err(damaged(page));
+        }
+        Ok(completed(segments, relations, images, links))
     }
 
     /// Writes the pages of the system space that have changed since they were written, and no other.
@@ -293,7 +348,7 @@ impl Catalog {
         }
     }
 
-    /// The number of the last link, or 0 where there is none.
+    /// The number of the last link, or 0 if there is none.
     pub fn last_link(&self) -> u8
         ensures none { (number : ℕ) → result < number → link_at self.now.listing number ≡ None }
         ensures some { 1 ≤ result → is_some (link_at self.now.listing result) ≡ true }
@@ -493,7 +548,7 @@ impl Catalog {
         self.pending[usize::from(page_of(number))] = true;
     }
 
-    /// The page of this number of the system space.
+    /// The page `number` of the system space.
     fn page(&self, number: u8) -> Page
         requires { number < system_pages }
         ensures { result ≡ catalog_page self.now.listing number }

@@ -3,21 +3,25 @@ ghost use Rattle.std.specs.Prelude.{◌≡◌, ◌≢◌, ◌↔◌, ◌<◌, �
 ghost use Rattle.std.specs.Prelude.{IfSome, IfNone};
 ghost use Rattle.rss_base.specs.Names.{IsName, AreApart};
 ghost use Rattle.rss_base.specs.Sizes.{segments, relations_most, images_most, links_most, system_pages};
+ghost use Rattle.rss_catalog.specs.Defined.{AreDefinitions, up_to, IsInBytes};
 ghost use Rattle.rss_base.specs.TupleTypes.{AreFields, field_names, is_kind, most_fields};
-ghost use Rattle.rss_base.specs.Listings.{ListingFits, numbered, IsFieldNumber, AreDifferent, IsSpelled};
-ghost use Rattle.rss_catalog.specs.Checking.{listing_of, AreNames, AreOnce, IsTaken, FitsIn, MayStand, TablesFit};
-ghost use Rattle.rss_catalog.specs.Checking.{ImageFitsIn, MayIndex, HasKeyOf, IsKeyOf, ImagesFit};
-ghost use Rattle.rss_catalog.specs.Checking.{LinkFitsIn, MayLink, AreLinksIn, HaveFewRoles, LinksFit};
+ghost use Rattle.rss_base.specs.Listings.{numbered, IsFieldNumber, AreDifferent};
+ghost use Rattle.rss_catalog.specs.Checking.{listing_of, AreNames, AreOnce, IsTaken, IsRelationIn, MayStand, TablesFitTo};
+ghost use Rattle.rss_catalog.specs.Checking.{IsImageIn, MayIndex, HasKeyOf, IsKeyOf, ImagesFitTo, IsFirstBad};
+ghost use Rattle.rss_catalog.specs.Checking.{IsLinkIn, MayLink, AreLinksIn, HaveFewRoles, LinksFit};
 ghost use Rattle.rss_catalog.specs.Checking.{AreAllOriginal, AreAllEarly};
 
 use crate::catalog::{at, image_page_of, page_of};
 use crate::entries::{Entry, roles_in};
-use crate::loading::LINK_PAGE;
+use crate::loading::{IMAGE_PAGE, LINK_PAGE, PAGE_COUNT};
 use rss_base::{
     FieldDef, IMAGES_MOST, ImageEntry, KEY_BYTES, LINKS_MOST, LinkEntry, MOST_FIELDS, MOST_WIDTH,
-    Name, PAGE_ENTRIES, RELATIONS_MOST, RelationEntry, Tid, is_name_text,
+    Name, RELATIONS_MOST, RelationEntry, Tid, is_name_text,
 };
 use rss_value::{key_width, width};
+
+/// How many tuples a relation may have.
+const TUPLES_MOST: u32 = 1 << 20;
 
 /// How many relations there may be.
 const RELATIONS: usize = RELATIONS_MOST as usize;
@@ -31,74 +35,75 @@ const LINKS: usize = LINKS_MOST as usize;
 /// In how many links a relation may be.
 const ROLES_MOST: u8 = 16;
 
-/// A page that makes a listing one that may not stand in a store.
-pub(crate) fn flaw(
+/// The first page up to which a listing may not stand in a store, whatever the levels of its images and
+/// the ends of its links, or the number of pages.
+pub(crate) fn first_bad(
     segment_names: &[Option<Name>],
     relations: &[Option<RelationEntry>],
     images: &[Option<ImageEntry>],
     links: &[Option<LinkEntry>],
-) -> Option<u8>
+) -> u8
     requires segment_places { length segment_names.now ≡ segments }
     requires relation_places { length relations.now ≡ relations_most }
     requires image_places { length images.now ≡ images_most }
     requires link_places { length links.now ≡ links_most }
-    ensures none { IfNone result
-        (ListingFits (listing_of segment_names.now relations.now images.now links.now)) }
-    ensures some { IfSome result (λ page.
-        ListingFits (listing_of segment_names.now relations.now images.now links.now) → ⊥) }
-    ensures within { IfSome result (λ page. page < system_pages) }
+    ensures { IsFirstBad (λ page. AreDefinitions (up_to page
+        (listing_of segment_names.now relations.now images.now links.now))) system_pages result }
 {
-    if let Some(page) = table_flaw(segment_names, relations) {
-        return Some(page);
+    let page = first_bad_table(segment_names, relations);
+    if page < IMAGE_PAGE {
+        return page;
     }
-    if let Some(page) = image_flaw(relations, images) {
-        return Some(page);
+    let page = first_bad_image(relations, images);
+    if page < LINK_PAGE {
+        return page;
     }
     if !are_links(relations, links) {
-        return Some(LINK_PAGE);
+        return LINK_PAGE;
     }
-    None
+    PAGE_COUNT
 }
 
-/// A page of segments or of relations that makes them such as a store may not have.
-fn table_flaw(segment_names: &[Option<Name>], relations: &[Option<RelationEntry>]) -> Option<u8>
+/// The first page up to which a store may not have these segments and relations, or that after theirs.
+fn first_bad_table(segment_names: &[Option<Name>], relations: &[Option<RelationEntry>]) -> u8
     requires { length relations.now ≡ relations_most }
-    ensures none { IfNone result (TablesFit segment_names.now relations.now) }
-    ensures some { IfSome result (λ page. TablesFit segment_names.now relations.now → ⊥) }
-    ensures within { IfSome result (λ page. page < system_pages) }
+    ensures { IsFirstBad (TablesFitTo segment_names.now relations.now) 7 result }
 {
-    if !are_names(segment_names) || !are_once(segment_names) {
-        return Some(0);
+    if !are_names(segment_names) {
+        return 0;
     }
-    if !are_once(&names_of::<RelationEntry, RELATIONS>(relations)) {
-        return Some(1);
+    if !are_once(segment_names) {
+        return 0;
     }
+    let names = names_of::<RelationEntry, RELATIONS>(relations);
     for (place, relation) in relations.iter().enumerate() {
+        if is_taken(&names[..place], &names[place]) {
+            return page_of(place as u8 + 1);
+        }
         if !may_stand(segment_names, relation) {
-            return Some(page_of(place as u8 + 1));
+            return page_of(place as u8 + 1);
         }
     }
-    None
+    IMAGE_PAGE
 }
 
-/// A page of images that makes them such as a store with these relations may not have.
-fn image_flaw(relations: &[Option<RelationEntry>], images: &[Option<ImageEntry>]) -> Option<u8>
+/// The first page up to which a store with these relations may not have these images, or that after
+/// theirs.
+fn first_bad_image(relations: &[Option<RelationEntry>], images: &[Option<ImageEntry>]) -> u8
     requires { length images.now ≡ images_most }
-    ensures none { IfNone result (ImagesFit relations.now images.now) }
-    ensures some { IfSome result (λ page. ImagesFit relations.now images.now → ⊥) }
-    ensures within { IfSome result (λ page. page < system_pages) }
+    ensures first { IsFirstBad (ImagesFitTo relations.now images.now) 9 result }
+    ensures behind { 7 ≤ result }
 {
     let names = names_of::<ImageEntry, IMAGES>(images);
     for (place, image) in images.iter().enumerate() {
-        let page = image_page_of(place as u8 + 1);
         if is_taken(&names[..place], &names[place]) {
-            return Some(page);
+            return image_page_of(place as u8 + 1);
         }
         if !may_index(relations, image) {
-            return Some(page);
+            return image_page_of(place as u8 + 1);
         }
     }
-    None
+    LINK_PAGE
 }
 
 // ---- names
@@ -214,9 +219,11 @@ fn may_stand(segment_names: &[Option<Name>], relation: &Option<RelationEntry>) -
 
 /// Whether a relation may stand beside these segments.
 fn is_entry(segment_names: &[Option<Name>], relation: &RelationEntry) -> bool
-    ensures { IsTrue result ↔ FitsIn segment_names.now relation.now }
+    ensures { IsTrue result ↔ IsRelationIn segment_names.now relation.now }
 {
-    let _live = relation.live;
+    if relation.live > TUPLES_MOST {
+        return false;
+    }
     if !is_name(&relation.name) {
         return false;
     }
@@ -299,12 +306,13 @@ fn may_index(relations: &[Option<RelationEntry>], image: &Option<ImageEntry>) ->
     }
 }
 
-/// Whether an image may stand beside these relations.
+/// Whether an image may stand beside these relations, whatever its root and its levels.
 fn is_image(relations: &[Option<RelationEntry>], image: &ImageEntry) -> bool
-    ensures { IsTrue result ↔ ImageFitsIn relations.now image.now }
+    ensures { IsTrue result ↔ IsImageIn relations.now image.now }
 {
     let _root = image.root;
-    if !is_name(&image.name) || image.levels == 0 {
+    let _levels = image.levels;
+    if !is_name(&image.name) {
         return false;
     }
     match at(relations, image.relation) {
@@ -425,9 +433,9 @@ fn may_link(relations: &[Option<RelationEntry>], link: &Option<LinkEntry>) -> bo
     }
 }
 
-/// Whether a link may stand beside these relations.
+/// Whether a link may stand beside these relations, whatever its ends.
 fn is_link(relations: &[Option<RelationEntry>], link: &LinkEntry) -> bool
-    ensures { IsTrue result ↔ LinkFitsIn relations.now link.now }
+    ensures { IsTrue result ↔ IsLinkIn relations.now link.now }
 {
     if !is_name(&link.name) {
         return false;
@@ -441,7 +449,7 @@ fn is_link(relations: &[Option<RelationEntry>], link: &LinkEntry) -> bool
     if link.late {
         return false;
     }
-    is_end(link.first) && is_end(link.last)
+    is_in_bytes(link.first) && is_in_bytes(link.last)
 }
 
 /// Whether a link's parents, if it has any, are of another of these relations than its children.
@@ -455,12 +463,12 @@ fn may_have_parent(relations: &[Option<RelationEntry>], link: &LinkEntry) -> boo
     }
 }
 
-/// Whether an end of a chain, if there is one, is an identifier that can be spelled.
-fn is_end(end: Option<Tid>) -> bool
-    ensures { IsTrue result ↔ IfSome end IsSpelled }
+/// Whether an end of a chain, if there is one, has other bytes than none.
+fn is_in_bytes(end: Option<Tid>) -> bool
+    ensures { IsTrue result ↔ IfSome end IsInBytes }
 {
     match end {
-        Some(tid) => usize::from(tid.slot) < PAGE_ENTRIES,
+        Some(tid) => tid.page != u32::MAX || tid.slot != u16::MAX,
         None => true,
     }
 }

@@ -31,7 +31,7 @@ pub(crate) fn read_segments(alloc: Global, page: &Page) -> Result<Vec<Option<Nam
     Ok(segments)
 }
 
-/// Puts the relations of a page behind those that are there.
+/// Puts the relations of a page after those that are there.
 pub(crate) fn read_relations(
     alloc: Global,
     page: &Page,
@@ -47,7 +47,7 @@ pub(crate) fn read_relations(
     Ok(())
 }
 
-/// Puts the images of a page behind those that are there.
+/// Puts the images of a page after those that are there.
 pub(crate) fn read_images(
     page: &Page,
     images: &mut Vec<Option<ImageEntry>>,
@@ -62,7 +62,7 @@ pub(crate) fn read_images(
     Ok(())
 }
 
-/// Puts the links of a page behind those that are there.
+/// Puts the links of a page after those that are there.
 pub(crate) fn read_links(page: &Page, links: &mut Vec<Option<LinkEntry>>) -> Result<(), AllocError>
     ensures read { OnOk result (links.new.items ≡ links.old.items
         ++ map link_of (pieces link_bytes links_most page.now)) }
@@ -101,7 +101,7 @@ fn read_relation(alloc: Global, bytes: &[u8]) -> Result<Option<RelationEntry>, A
     }))
 }
 
-/// So many fields, of which those behind the original ones were added.
+/// So many fields, of which those after the original ones were added.
 fn read_fields(
     alloc: Global,
     originals: usize,
@@ -199,7 +199,7 @@ fn read_place(bytes: &[u8]) -> Option<Tid>
 {
     let page = read_number(&bytes[..4]);
     let slot = BigEndian::read_u16(&bytes[4..]);
-    if slot == u16::MAX {
+    if page == u32::MAX && slot == u16::MAX {
         None
     } else {
         Some(Tid { page, slot })

@@ -90,7 +90,7 @@ pub(crate) fn links_page(items: &[Option<LinkEntry>]) -> Page
     page_of(&bytes)
 }
 
-/// The page that begins with these bytes; zeros stand behind them.
+/// The page that begins with these bytes; zeros stand after them.
 fn page_of(bytes: &PageBytes) -> Page
     ensures { result ≡ padded page_bytes bytes.now }
 {
@@ -127,7 +127,7 @@ fn put_relation(bytes: &mut PageBytes, relation: &Option<RelationEntry>)
     }
 }
 
-/// How many bytes of a relation's aren't the zeros behind it.
+/// How many bytes of a relation's aren't the zeros after it.
 fn definition_bytes(relation: &RelationEntry) -> usize
     requires { length relation.now.fields ≤ most_fields }
     ensures { result ≡ definition_bytes relation.now }

@@ -8,4 +8,4 @@ mod encoding;
 mod entries;
 mod loading;
 
-pub use catalog::{Catalog, image_page_of};
+pub use catalog::{Catalog, Loaded, image_page_of};

@@ -1,6 +1,6 @@
 -- How a look through all pages of a store ends.
-use Rattle.std.proofs.Common.{◌≡◌, inl, inr, ℕ, zero, suc, ◌+◌, ◌-◌, ◌*◌, ◌<◌, ◌≤◌, true, false, refl, sym, ◌∙◌, ap, subst, arith}
-use Rattle.std.specs.Prelude.{Result, Ok, Err, Some, is_some}
+use Rattle.std.proofs.Common.{◌≡◌, ◌⊎◌, inl, inr, ℕ, zero, suc, ◌+◌, ◌-◌, ◌*◌, ◌<◌, ◌≤◌, true, false, refl, sym, ◌∙◌, ap, subst, arith}
+use Rattle.std.specs.Prelude.{Result, Ok, Err, Option, Some, None, is_some}
 use Rattle.std.proofs.lemmas.Bool.{cases_eq, true≢false}
 use Rattle.rss_base.specs.DiskRule.{IsTold}
 use Rattle.rss_base.specs.PageMap.{IsKey}
@@ -8,7 +8,7 @@ use Rattle.rss_base.specs.Paged.{Held, Mapped, page_key}
 use Rattle.rss_base.specs.Sizes.{system_pages}
 use Rattle.rss_base.specs.Steps.{PagesView, no_page}
 use Rattle.rss_base.specs.Looking.{ChecksPages}
-use Rattle.rss_base.specs.Listings.{Listing, ListingFits, HoldsListing, segment_at}
+use Rattle.rss_base.specs.Listings.{Listing, ListingFits, segment_at}
 use Rattle.rss_base.specs.declared.place.Place.{Place}
 use Rattle.rss_base.specs.declared.place.Place.TheVariants.{Room, Link as LinkPlace}
 use Rattle.rss_base.specs.declared.fault.PageFault.{PageFault}
@@ -22,14 +22,19 @@ use Rattle.rss_tuple.specs.Directory.{homes, overflows}
 use Rattle.rss_tuple.specs.Heaps.{AreLinked, AreHeaps}
 use Rattle.rss_tuple.specs.Checked.{pages_of, IsNoted, AreNoted}
 use Rattle.rss_catalog.specs.Catalogs.{CatalogView, Loads, IsCatalogPlace}
+use Rattle.rss_catalog.specs.Defined.{HasFewTuples, LoadsDefined, NamesFirst}
+use Rattle.rss_catalog.proofs.Completed.{catalog_fits, stored_same, stored_image, stored_link}
+use Rattle.rss_catalog.proofs.Same.{fits_no_flaw}
+use Rattle.rss_model.specs.Tables.{Tables}
+use Rattle.rss_model.specs.Fits.{Fits}
 use Rattle.rss_access.specs.Changes.{both}
 use Rattle.rss_access.proofs.Looking.{heaps_looked}
-use Rattle.rss_stored.specs.Store.{IsStorePage}
+use Rattle.rss_stored.specs.Store.{IsStorePage, SpellsTables, AreNodesWithin}
 use Rattle.rss_model.proofs.LogLists.{some_of}
 use Rattle.rss_stored.proofs.Relisted.{number_within_list}
 use Rattle.rss_store.specs.Checks.{IsSegmentOf, ChecksSegment, MissesSegment, ChecksSegments, MissesOne, ChecksLinks, MissesLinks, ChecksImages, MissesImages}
-use Rattle.rss_store.specs.Looks.{FindsTables, FindsNone, AreAllNoted}
-use Rattle.rss_store.proofs.Found.{heap_listed, linked_found, holds_found, spelled_segment, none_by, shows_spelled, sound_spelled, links_spelled}
+use Rattle.rss_store.specs.Looks.{FindsTables, FindsNone, HoldsNone, AreAllNoted}
+use Rattle.rss_store.proofs.Found.{heap_listed, linked_found, holds_found, spelled_segment, shows_spelled, sound_spelled, links_spelled}
 use Rattle.rss_store.proofs.LookedImages.{tuples_same, all_same}
 use Rattle.rss_store.proofs.LookedLinks.{link_same}
 
@@ -163,14 +168,41 @@ noted_on {mid = mid} {new = new} told_mid did checks segment there = record {
 
 -- ---- all pages
 
--- the pages of the system space spell no listing
-pub none_listed : {old : PagesView} {place : Place} → (IsTold old.disk → (listing : Listing) → ListingFits listing → HoldsListing old.held listing → ⊥) → IsCatalogPlace place → FindsNone old place
-none_listed flawed named = record {
-  none = λ told listing tables system spells nodes fit. flawed told listing spells.listed system;
+-- no relation of a store has more tuples than it may
+few_told : {held : Held} {slots : ℕ} {listing : Listing} {tables : Tables} → SpellsTables held listing tables → Fits slots tables → HasFewTuples listing
+few_told spells fit number relation is = omega (arith, spells.counts number relation is, fit.few relation.name)
+
+-- a page of the system space is no definition
+pub none_listed : {old : PagesView} {place : Place} → (IsTold old.disk → NamesFirst old.held place) → IsCatalogPlace place → FindsNone old place
+none_listed {old = old} first named = record {
+  none = λ told listing tables system spells nodes fit.
+      let flaw = first told in
+      fits_no_flaw old.held listing flaw.page system spells.listed (few_told spells fit) flaw.first;
   elsewhere = λ told room. let at = named.is in absurd (cc);
 }
 
-module _ {T : Type 0} {old mid : PagesView} {catalog : CatalogView} {first : Result T PageFault} (holds : IsTold old.disk → (key : PageKey) → is_some (old.held key) ≡ old.mapped key) (allowed : (key : PageKey) → old.mapped key ≡ true → IsKey old.slots key) (loads : Loads old catalog) (did : ChecksPages no_page system_pages old mid first) where
+-- the pages of a catalog's listing spell tables by no other listing
+none_loaded : (old : PagesView) (catalog : CatalogView) (image link : Option ℕ) → LoadsDefined old catalog image link → IsTold old.disk → ((tables : Tables) → SpellsTables old.held catalog.listing tables → AreNodesWithin old.slots old.held catalog.listing → Fits old.slots tables → ⊥) → HoldsNone old.held old.slots
+none_loaded old catalog image link loads told none listing tables system spells nodes fit =
+    let same = sym (stored_same old catalog image link loads told listing system spells.listed) in
+    none tables (subst (λ (l : Listing). SpellsTables old.held l tables) same spells) (subst (AreNodesWithin old.slots old.held) same nodes) fit
+
+-- nothing was named
+pub none_there : (o : Option ℕ) → ((n : ℕ) → o ≡ Some n → ⊥) → o ≡ None
+none_there None not = refl
+none_there (Some n) not = absurd (not n refl)
+
+-- an image has no levels, or a link has an end that is none
+pub none_completed : {old : PagesView} {place : Place} (catalog : CatalogView) (image link : Option ℕ) → LoadsDefined old catalog image link → (number : ℕ) → (image ≡ Some number) ⊎ (link ≡ Some number) → (place ≡ Room → ⊥) → FindsNone old place
+none_completed {old = old} catalog image link loads number wrong elsewhere = record {
+  none = λ told listing tables system spells nodes fit. elim wrong [
+    | inl is ↦ stored_image old catalog image link loads told listing system spells.listed number is
+    | inr is ↦ stored_link old catalog image link loads told listing system spells.listed number is
+  ];
+  elsewhere = λ told. elsewhere;
+}
+
+module _ {T : Type 0} {old mid : PagesView} {catalog : CatalogView} {image link : Option ℕ} {first : Result T PageFault} (holds : IsTold old.disk → (key : PageKey) → is_some (old.held key) ≡ old.mapped key) (allowed : (key : PageKey) → old.mapped key ≡ true → IsKey old.slots key) (loads : LoadsDefined old catalog image link) (did : ChecksPages no_page system_pages old mid first) where
   told_then : IsTold old.disk → IsTold mid.disk
   told_then told = did.looks.step.passes.leaves.told.0 told
 
@@ -180,7 +212,7 @@ module _ {T : Type 0} {old mid : PagesView} {catalog : CatalogView} {first : Res
   -- there is a page that no store with these definitions has
   pub none_foreign : {place : Place} (key : PageKey) → mid.mapped key ≡ true → (IsStorePage catalog.listing key → ⊥) → (place ≡ Room → ⊥) → FindsNone old place
   none_foreign key is foreign elsewhere = record {
-    none = λ told. none_by old.held old.slots catalog.listing loads.fits (loads.holds told) (λ tables spells nodes fit. foreign (spells.only key (holds told key ∙ was_mapped key is)));
+    none = λ told. none_loaded old catalog image link loads told (λ tables spells nodes fit. foreign (spells.only key (holds told key ∙ was_mapped key is)));
     elsewhere = λ told. elsewhere;
   }
 
@@ -190,7 +222,7 @@ module _ {T : Type 0} {old mid : PagesView} {catalog : CatalogView} {first : Res
   -- a segment isn't in form
   pub none_sound : {place : Place} → MissesOne catalog.listing mid place → FindsNone old place
   none_sound one = record {
-    none = λ told. none_by old.held old.slots catalog.listing loads.fits (loads.holds told) (λ tables spells nodes fit.
+    none = λ told. none_loaded old catalog image link loads told (λ tables spells nodes fit.
         one.misses.is_not (told_then told) (subst (λ (h : Held). IsSegmentOf h mid.slots catalog.listing one.segment) (sym (did.looks.held told))
         (subst (λ (n : ℕ). IsSegmentOf old.held n catalog.listing one.segment) (sym did.looks.step.passes.slots) (spelled_segment (key_held told) spells fit one.segment))));
     elsewhere = λ told. one.misses.elsewhere;
@@ -227,7 +259,7 @@ module _ {T : Type 0} {old mid : PagesView} {catalog : CatalogView} {first : Res
     -- a link has no chains
     pub none_linked : {place : Place} → old.slots < 4294967296 → (IsTold seen.disk → MissesLinks (both seen catalog) place) → FindsNone old place
     none_linked small misses = record {
-      none = λ told. none_by old.held old.slots catalog.listing loads.fits (loads.holds told) (λ tables spells nodes fit.
+      none = λ told. none_loaded old catalog image link loads told (λ tables spells nodes fit.
           let one = misses (told_seen told) in
           one.is_not (link_same catalog (held_seen told) (links_spelled {at = both old catalog} spells fit small one.number one.link one.listed)));
       elsewhere = λ told room. let at : LinkPlace (misses (told_seen told)).number ≡ Room = sym (misses (told_seen told)).named ∙ room in absurd (cc);
@@ -240,7 +272,7 @@ module _ {T : Type 0} {old mid : PagesView} {catalog : CatalogView} {first : Res
     -- an image isn't in form
     pub none_imaged : {place : Place} → (IsTold seen.disk → MissesImages (both seen catalog) place) → FindsNone old place
     none_imaged misses = record {
-      none = λ told. none_by old.held old.slots catalog.listing loads.fits (loads.holds told) (λ tables spells nodes fit.
+      none = λ told. none_loaded old catalog image link loads told (λ tables spells nodes fit.
           (misses (told_seen told)).is_not tables (tuples_same {old = old} {new = seen} catalog slots_seen (held_seen told) (shows_spelled {at = both old catalog} spells fit))
           (all_same {old = old} {new = seen} catalog slots_seen (held_seen told) (sound_spelled {at = both old catalog} spells fit nodes)));
       elsewhere = λ told. (misses (told_seen told)).elsewhere;
@@ -267,7 +299,7 @@ module _ {T : Type 0} {old mid : PagesView} {catalog : CatalogView} {first : Res
             let was : old.held key ≡ Some bytes = ap (λ (h : Held). h key) (sym (held_seen told)) ∙ is in
             (noted_seen told key.segment (heap_listed old.held catalog.listing (only_held told) key heap (ap is_some was)) key bytes (refl, heap) is).heap;
         linked = λ segment. subst (λ (h : Held). AreLinked (homes h segment) (overflows h segment)) (sym (held_seen told))
-            (linked_found old.held old.slots catalog.listing loads.fits (only_held told) (key_held told) (sound_old told) segment);
+            (linked_found old.held old.slots catalog.listing (catalog_fits old catalog image link loads) (only_held told) (key_held told) (sound_old told) segment);
       }
 
       pub heaps_seen : IsTold seen.disk → AreHeaps seen
@@ -284,11 +316,11 @@ module _ {T : Type 0} {old mid : PagesView} {catalog : CatalogView} {first : Res
             subst (IsNoted key bytes) (sym (did_last.looks.step.notes_off key (λ none. none))) (noted_seen told segment there key bytes page was)
 
         -- all are found
-        pub finds_tables : FindsTables old new catalog
-        finds_tables = record {
-          loaded = loads;
+        pub finds_tables : Loads old catalog → FindsTables old new catalog
+        finds_tables loaded = record {
+          loaded = loaded;
           only = only_mapped;
-          holds = λ told. holds_found (both old catalog) small loads.fits (only_held told) (key_held told) (sound_old told) (chains told) (images_old told) (loads.holds told);
+          holds = λ told. holds_found (both old catalog) small loaded.fits (only_held told) (key_held told) (sound_old told) (chains told) (images_old told) (loaded.holds told);
           heaps = λ told. heaps_looked did_last.looks.step (told_seen told) (heaps_old told);
           noted = noted_now;
         }

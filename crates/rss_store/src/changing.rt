@@ -18,12 +18,12 @@ use rss_restart::change_at;
 impl<S: Saving> DurableStore<S> {
     ghost use Rattle.rss_store.specs.Parts.{view};
 
-    /// Makes a change of a transaction, and puts its record behind the others. Answers the record's
+    /// Makes a change of a transaction, and puts its record after the others. Answers the record's
     /// position.
     ///
-    /// It takes no memory, and two home or overflow pages at most. Where there is no room, or the tuple or
-    /// its place in a chain isn't as the change tells it, which no device shows that tells its contents,
-    /// the fault is `Damaged`.
+    /// It takes no memory, and two home or overflow pages at most. If there is no room, or the
+    /// tuple or its place in a chain isn't as the change tells it, which no device shows that tells
+    /// its contents, the fault is `Damaged`.
     pub fn change(&mut self, transaction: u32, change: Change) -> Result<u64, PageFault>
         requires ready { IsReady (view S.view self.old) }
         requires bounded { IsChangeBounded change }
@@ -45,11 +45,12 @@ impl<S: Saving> DurableStore<S> {
         Ok(self.log.append(&LogRecord::Change(transaction, change)))
     }
 
-    /// Undoes the change whose record begins at this position. It takes no memory, and two
-    /// home or overflow pages at most.
+    /// Undoes the change whose record begins at this position. It takes no memory, and two home or
+    /// overflow pages at most.
     ///
-    /// Where there is no room, the fault is `Damaged`; so it is where no such record begins there, or
-    /// the tuple or its place in a chain isn't as it tells, but no device shows that which tells its contents.
+    /// If there is no room, the fault is `Damaged`. So it is if no such record begins there, or the
+    /// tuple or its place in a chain isn't as it tells, but no device shows that which tells its
+    /// contents.
     pub fn undo(&mut self, position: u64) -> Result<(), PageFault>
         requires ready { IsReady (view S.view self.old) }
         requires low { (view S.view self.old).log.head ≤ position }

@@ -28,11 +28,11 @@ use rss_access::{TUPLES_MOST, check_image};
 use rss_base::{
     Kind, LinkEntry, PageFault, PageKey, Pages, Place, RELATIONS_MOST, SEGMENTS, Space, Tid,
 };
-use rss_catalog::Catalog;
+use rss_catalog::{Catalog, Loaded};
 use rss_link::{Ends, Relations};
 use rss_members::{chains_of, prefix_len};
 use rss_pagemap::SlotTable;
-use rss_tuple::{Store, Visitor, check};
+use rss_tuple::{Flaw, Store, Visitor, check};
 use rss_value::spells;
 use std::alloc::Global;
 
@@ -61,13 +61,23 @@ pub fn look_through<P: Pages>(alloc: Global, tuples: &mut Store<P>) -> Result<Ca
     ensures did { (most : ℕ) × ChecksPages IsHeapKey most
         (P.view tuples.old.pages) (P.view tuples.new.pages) result }
 {
-    let catalog = Catalog::load(alloc, &mut tuples.pages)?;
+    let Loaded {
+        catalog,
+        image,
+        link,
+    } = Catalog::load(alloc, &mut tuples.pages)?;
     if let Some(key) = first_foreign(&tuples.pages, &catalog) {
         return Err(PageFault::Damaged(Place::Page(key)));
     }
     look_at_segments(alloc, &mut tuples.pages, &catalog)?;
     look_at_links(tuples, &catalog)?;
     look_at_images(tuples, &catalog)?;
+    if let Some(image) = image {
+        return Err(PageFault::Damaged(Place::Image(image)));
+    }
+    if let Some(link) = link {
+        return Err(PageFault::Damaged(Place::Link(link)));
+    }
     Ok(catalog)
 }
 
@@ -233,8 +243,8 @@ fn look_at_images<P: Pages>(tuples: &mut Store<P>, catalog: &Catalog) -> Result<
     }
 }
 
-/// Where pages of images show that they are used by none: at the first of them, or at this image
-/// where there is no such page.
+/// Where pages of images show that they are used by none: at the first of them, or at this image if
+/// there is no such page.
 fn unused_place<P: Pages>(pages: &P, image: u8) -> Place
     ensures { result ≢ RoomPlace }
 {
@@ -303,7 +313,9 @@ fn look_at_segment<P: Pages>(
         segment,
         live: [0; RELATIONS],
     };
-    check(alloc, pages, segment, &mut census)?;
+    if let Some(flaw) = check(alloc, pages, segment, &mut census)? {
+        return Err(PageFault::Damaged(flaw_place(segment, flaw)));
+    }
     for number in 1..=RELATIONS_MOST {
         check_count(
             catalog,
@@ -315,8 +327,22 @@ fn look_at_segment<P: Pages>(
     Ok(())
 }
 
-/// The relation of this number, if it is one of the segment, has as many tuples as were seen, and no
-/// more than a relation may have.
+/// Where a flaw of a segment shows: at the tuple, or at the overflow page.
+fn flaw_place(segment: u8, flaw: Flaw) -> Place
+    ensures { result ≢ RoomPlace }
+{
+    match flaw {
+        Flaw::Entry(tid) => Place::Tuple(segment, tid),
+        Flaw::Unled(number) => Place::Page(PageKey {
+            segment,
+            space: Space::Overflow,
+            number,
+        }),
+    }
+}
+
+/// The relation `number`, if it is one of the segment, has as many tuples as were seen, and no more
+/// than a relation may have.
 fn check_count(catalog: &Catalog, segment: u8, number: u8, seen: u32) -> Result<(), PageFault>
     ensures is { OnOk result (IsCountOf catalog.now.listing segment number seen) }
     ensures misses { IfErr result (λ fault. (fault ≡ PageDamaged (CountPlace number))

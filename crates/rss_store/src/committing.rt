@@ -26,12 +26,12 @@ use rss_buffer::Saving;
 impl<S: Saving> DurableStore<S> {
     ghost use Rattle.rss_store.specs.Parts.{view};
 
-    /// Ends a transaction: puts its End record behind the others, writes the pieces of the log that
+    /// Ends a transaction: puts its End record after the others, writes the pieces of the log that
     /// became full since a root was written, and selects the other root with the rest of the log.
     /// No data slot and no map area is written, and the root keeps its version.
     ///
     /// At each moment a stop leaves the store of before or the one with the transaction committed;
-    /// after `Ok` the latter.
+    /// after `Ok` only the one with it committed.
     pub fn commit(&mut self, transaction: u32) -> Result<(), PageFault>
         requires ready { IsReady (view S.view self.old) }
         requires room { HasLogRoom (view S.view self.old).log end_size
@@ -75,13 +75,14 @@ impl<S: Saving> DurableStore<S> {
         self.select(next)
     }
 
-    /// Takes a checkpoint: writes the pages of the catalog that have changed, saves all pages and
-    /// their map to where no stop finds them, puts a Checkpoint record behind the others that names
-    /// these transactions, each with the position of its first change, and selects the other root,
-    /// with the newest version, with this map and with the log from the least of these positions on.
+    /// Takes a checkpoint. It writes the pages of the catalog that have changed, and saves all
+    /// pages and their map to where no stop finds them. It puts a Checkpoint record after the
+    /// others that names these transactions, each with the position of its first change. It selects
+    /// the other root, with the newest version, with this map and with the log from the least of
+    /// these positions on.
     ///
-    /// At each moment a stop leaves the store of before or that of the checkpoint; after `Ok` the
-    /// latter.
+    /// At each moment a stop leaves the store of before or that of the checkpoint; after `Ok` only
+    /// that of the checkpoint.
     pub fn checkpoint(&mut self, marks: Marks) -> Result<(), PageFault>
         requires ready { IsReady (view S.view self.old) }
         requires half { 2 * mapped_pages (view S.view self.old).pages.slots
@@ -137,8 +138,8 @@ impl<S: Saving> DurableStore<S> {
 
     /// Writes the pieces of the log that became full, and selects this root in place of the other.
     ///
-    /// At each moment a stop leaves the store of before or the one of this root; after `Ok` the
-    /// latter.
+    /// At each moment a stop leaves the store of before or the one of this root; after `Ok` only
+    /// the one of this root.
     fn select(&mut self, next: Root) -> Result<(), PageFault>
         requires { CanSelect (view S.view self.old) next }
         ensures moments { IsTold (view S.view self.old).pages.disk
@@ -175,7 +176,7 @@ impl<S: Saving> DurableStore<S> {
     }
 }
 
-/// The least of the marks' positions, or this one where there is none less.
+/// The least of the marks' positions, or this one if there is none less.
 pub(crate) fn least_mark(marks: &Marks, end: u64) -> u64
     ensures { result ≡ least_mark end marks.now }
 {

@@ -49,8 +49,8 @@ impl<S: Saving> DurableStore<S> {
         self.log.free()
     }
 
-    /// How many bytes could be appended to the log behind a checkpoint that names these transactions,
-    /// each with the position of its first change.
+    /// How many bytes could be appended to the log after a checkpoint that names these
+    /// transactions, each with the position of its first change.
     pub fn free_behind(&self, marks: &Marks) -> u64
         requires ready { IsReady (view S.view self.now) }
         requires early { (view S.view self.now).log.end + record_size (records.Checkpoint marks.now)

@@ -26,7 +26,8 @@ use rss_root::load;
 use rss_tuple::Store;
 use std::alloc::Global;
 
-/// A store whose log ends here or behind isn't opened, so that the positions of a session stay numbers.
+/// A store whose log ends here or later isn't opened, so that the positions of a session stay
+/// numbers.
 const POSITION_MOST: u64 = 1 << 62;
 
 /// The selected root with its number, the map that it names, and its log.
@@ -60,7 +61,7 @@ fn read_log<D: Device>(alloc: Global, device: &mut D, root: &Root) -> Result<Log
     )
 }
 
-/// Reads the layout of a store. Where it is refused the fault says why.
+/// Reads the layout of a store. If it is refused, the fault says why.
 fn read_layout<D: Device>(alloc: Global, device: &mut D) -> Result<Layout, OpenFault>
     ensures layout { IfOk result (λ l. IsLayout l.root l.number l.table) }
     ensures log { IfOk result (λ l. IsLogRead l.root l.log) }
@@ -91,7 +92,7 @@ fn read_layout<D: Device>(alloc: Global, device: &mut D) -> Result<Layout, OpenF
     })
 }
 
-/// The store whose layout was read, with its pages in a buffer of so many frames, where they hold
+/// The store whose layout was read, with its pages in a buffer of so many frames, if they hold
 /// tables.
 fn store_of<D: Device>(
     alloc: Global,
@@ -141,7 +142,7 @@ fn store_of<D: Device>(
 }
 
 /// Whether the log ends with the Checkpoint record at this position, and that names no transaction.
-/// None where no Checkpoint record begins there.
+/// None if no Checkpoint record begins there.
 fn rests_at(log: &Log, checkpoint: u64) -> Option<bool>
     requires low { log.now.head ≤ checkpoint }
     requires high { checkpoint ≤ log.now.end }
@@ -159,8 +160,8 @@ fn rests_at(log: &Log, checkpoint: u64) -> Option<bool>
 
 impl<S: Saving> DurableStore<S> {
     /// Brings a store that was just read to rest: the pages to the tables that the log recovers,
-    /// and then the disk to these by a checkpoint. Where the log is at rest, nothing is done. Where
-    /// there are more pages than there may be, which no log of a store leads to, it ends before the
+    /// and then the disk to these by a checkpoint. If the log is at rest, nothing is done. If there
+    /// are more pages than there may be, which no log of a store leads to, it ends before the
     /// checkpoint.
     fn bring_to_rest(&mut self, alloc: Global) -> Result<(), PageFault>
         requires ready { IsReady (view S.view self.old) }
@@ -225,21 +226,21 @@ fn refused<D: Device>(store: DurableStore<Buffer<D>>, fault: PageFault) -> Unope
 }
 
 /// Opens the store that a device holds, with room in memory for so many of its pages, or for all of
-/// them where these are fewer. Room for all that it ever keeps of them is taken here.
+/// them if these are fewer. Room for all that it ever keeps of them is taken here.
 ///
 /// It syncs the device and reads the whole store. Then it brings the tables of the last checkpoint
-/// to those that the log recovers, and takes a checkpoint of them, unless the log ends with its
-/// Checkpoint record and that names no transaction; then it writes nothing.
+/// to those that the log recovers, and takes a checkpoint of them. If the log ends with its
+/// Checkpoint record and that names no transaction, it writes nothing.
 ///
-/// The device is handed back where it holds no store: `NotAStore` names the first place at which the
-/// layout of the device, of its root or of its map is out of form. Where the layout is sound it is
-/// `Damaged`: at `Room` where the map has too many pages; at `Catalog` where a page of the system
-/// space isn't in form; at a page or a tuple that is none of a store; at `Count` where a relation
-/// hasn't as many tuples as the catalog says, or has more than it may have; at `Image` where an
-/// image hasn't the entries of its relation's tuples; or at a position of the log where no record
-/// stands that there should be, or one that doesn't fit the tables, or from which the records lead
-/// to more pages than there may be. A store whose log ends at 2^62 or behind it is sound, but there are no
-/// positions for what more is logged: the answer is `NoMemory`.
+/// The device is handed back if it holds no store. `NotAStore` names the first place at which the
+/// layout of the device, of its root or of its map is out of form. If the layout is sound it is
+/// `Damaged`: at `Room` if the map has too many pages, and at `Catalog` if a page of the system
+/// space isn't in form. It is at a page or a tuple that is none of a store. It is at `Count` if a
+/// relation hasn't as many tuples as the catalog says, or has more than it may have, and at `Image`
+/// if an image hasn't the entries of its relation's tuples. It is at a position of the log at which
+/// no record stands that there should be, or one that doesn't fit the tables. It is also at one
+/// from which the records lead to more pages than there may be. A store whose log ends at 2^62 or
+/// later is sound, but there are no positions for what more is logged: the answer is `NoMemory`.
 pub fn open<D: Device>(
     alloc: Global,
     device: D,

@@ -14,8 +14,8 @@ use rss_catalog::Catalog;
 impl<S: Saving> DurableStore<S> {
     ghost use Rattle.rss_store.specs.Parts.{view};
 
-    /// Whether there are as many slots as may be needed where nothing is open, and images have no
-    /// more pages than they may.
+    /// Whether there are as many slots as may be needed if nothing is open, and images have no more
+    /// pages than they may.
     pub(crate) fn has_room(&self) -> bool
         requires { IsReady (view S.view self.now) }
         ensures { IsTrue result ↔ HasRoomAtRest (view S.view self.now) }

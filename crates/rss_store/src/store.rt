@@ -7,13 +7,13 @@ use rss_tuple::Store;
 
 /// A store on a device: the tables in its pages, and its log.
 ///
-/// A change goes to the pages and to the log in memory at once. What a stop leaves changes with
-/// `commit` and `checkpoint` alone. A call that fails leaves the store as it may not be called
+/// A change goes to the pages and to the log in memory at once. What a stop leaves changes only
+/// with `commit` and `checkpoint`. A call that fails leaves the store as it may not be called
 /// again: a stop then leaves what it left before the call, or what the call was to bring there.
 pub struct DurableStore<S: Saving> {
     /// For looks at tuples. Changes of them go by `change` and `undo`.
     pub tuples: Store<S>,
-    /// What is defined. A new definition is on the disk behind the next checkpoint.
+    /// What is defined. A new definition is on the disk after the next checkpoint.
     pub catalog: Catalog,
     pub(crate) log: Log,
     /// The selected root, and its number.

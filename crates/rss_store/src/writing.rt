@@ -50,7 +50,7 @@ pub(crate) fn write_pieces<S: Saving>(
     Ok(())
 }
 
-/// The bytes of the log behind its last full piece.
+/// The bytes of the log after its last full piece.
 pub(crate) fn tail_of(log: &Log) -> Tail
     ensures { result ≡ tail_of log.now }
 {

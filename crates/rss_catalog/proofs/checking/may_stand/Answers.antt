@@ -1,11 +1,11 @@
 use Rattle.std.proofs.Common.{◌∙◌, sym, refl, subst}
 use Rattle.std.proofs.lemmas.Option.{none-some, same_Some}
-use Rattle.rss_catalog.specs.Checking.{FitsIn}
+use Rattle.rss_catalog.specs.Checking.{IsRelationIn}
 use Rattle.rss_catalog.proofs.checking.may_stand.Goals as goal
 
 pub returns-in-Some : goal.returns-in-Some
 returns-in-Some c = (
-  λ it entry is. subst (FitsIn c.args.segment_names.now) (same_Some _ entry (sym c.in-Some.is ∙ is)) (c.is_entry.ensures.0 it),
+  λ it entry is. subst (IsRelationIn c.args.segment_names.now) (same_Some _ entry (sym c.in-Some.is ∙ is)) (c.is_entry.ensures.0 it),
   λ may. c.is_entry.ensures.1 (may _ c.in-Some.is),
 )
 

@@ -4,7 +4,7 @@ use Rattle.std.specs.Prelude.{map}
 use Rattle.rss_catalog.specs.Reading.{pieces, image_of}
 use Rattle.rss_catalog.specs.Loading.{image_form, page_with}
 use Rattle.rss_catalog.proofs.Read.{has_images}
-use Rattle.rss_catalog.proofs.Loaded.{last_read, is_page}
+use Rattle.rss_catalog.proofs.PagesRead.{last_read, is_page}
 use Rattle.rss_catalog.proofs.entries.ImageEntryEntry.read_page.Goals as goal
 
 pub images_page-requires : goal.images_page-requires

@@ -4,7 +4,7 @@ use Rattle.std.specs.Prelude.{map}
 use Rattle.rss_catalog.specs.Reading.{pieces, link_of}
 use Rattle.rss_catalog.specs.Loading.{link_form, page_with}
 use Rattle.rss_catalog.proofs.Read.{has_links}
-use Rattle.rss_catalog.proofs.Loaded.{last_read, is_page}
+use Rattle.rss_catalog.proofs.PagesRead.{last_read, is_page}
 use Rattle.rss_catalog.proofs.entries.LinkEntryEntry.read_page.Goals as goal
 
 pub links_page-requires : goal.links_page-requires

@@ -5,7 +5,7 @@ use Rattle.rss_base.specs.declared.relation.RelationEntry.{RelationEntry}
 use Rattle.rss_catalog.specs.Reading.{pieces, relation_of, HasFewFields}
 use Rattle.rss_catalog.specs.Loading.{relation_form, page_with}
 use Rattle.rss_catalog.proofs.Read.{has_relations}
-use Rattle.rss_catalog.proofs.Loaded.{last_read, few_eight, is_page}
+use Rattle.rss_catalog.proofs.PagesRead.{last_read, few_eight, is_page}
 use Rattle.rss_catalog.proofs.entries.RelationEntryEntry.read_page.Goals as goal
 
 pub relations_page-requires-clause-many : goal.relations_page-requires-clause-many
