@@ -8,6 +8,7 @@ use Rattle.rss_page.specs.Slotted.{entries}
 use Rattle.rss_page.specs.Surveyed.{held_at}
 use Rattle.rss_tuple.specs.Directory.{Entries, contents_in, overflows, body_in}
 use Rattle.rss_tuple.specs.Heaps.{HasBody}
+use Rattle.rss_tuple.specs.Flaws.{IsBodyRight}
 use Rattle.rss_tuple.specs.Looks.{IsMarked, HasGood, MayHold, MayStand}
 use Rattle.rss_tuple.proofs.Seen.{some_there}
 
@@ -16,7 +17,7 @@ pub holds_moved : (overflow : Entries) (marks : List ℕ) (is_good : List ℕ �
 holds_moved overflow marks is_good page slot content there fresh has = record {
   leads = λ p s is. subst (λ (c : Content). HasBody c) (same p s is) (record { body = has.body; is = there ∙ has.is });
   fresh = λ p s is marked. fresh (back p s is marked);
-  good = λ body is. subst (λ (b : List ℕ). is_good b ≡ true) (the_body body (sym (ap body_in (there ∙ has.is)) ∙ is)) has.good;
+  good = λ body is. subst (λ (b : List ℕ). IsBodyRight is_good b) (the_body body (sym (ap body_in (there ∙ has.is)) ∙ is)) has.good;
 }
   where
     same : (p s : ℕ) → Forward page slot ≡ Forward p s → overflow page slot ≡ overflow p s

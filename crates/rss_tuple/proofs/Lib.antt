@@ -1,3 +1,5 @@
+pub mod Wrong
+pub mod Flaws
 pub mod Checked
 pub mod LookedAll
 pub mod LookedPages

@@ -1,6 +1,6 @@
 -- Where bodies stand in pages.
 use Rattle.std.proofs.Common.{◌≡◌, ℕ, ◌≤◌, true, List, refl, sym, ◌∙◌, ap, subst}
-use Rattle.std.specs.Prelude.{Option, Some, option_map, Result, Ok, Err, IfOk}
+use Rattle.std.specs.Prelude.{Option, Some, None, option_map, Result, Ok, Err, IfOk, IfSome}
 use Rattle.std.proofs.lemmas.Option.{same_Some}
 use Rattle.rss_base.specs.Paged.{Held}
 use Rattle.rss_base.specs.Steps.{PagesView}
@@ -43,8 +43,17 @@ module _ (held : Held) (key : PageKey) {page : List ℕ} (there : held key ≡ S
   held_by slot same found holds = says_so found (same ∙ ap (λ (p : Option (List ℕ)). held_at (contents_in p) slot) there ∙ holds)
 
 -- it may stand there, in a page that is in memory
+entry_in_form : (view : PagesView) {key : PageKey} (space : ℕ) → view.in_memory key ≡ true → (found : Entry) → IsAllowed space found → length_of found ≤ body_most → IsInForm view key found
+entry_in_form view space there EmptyEntry allowed short = tt
+entry_in_form view space there (HereEntry place length) allowed short = record { there = there; stands = allowed; short = short }
+entry_in_form view space there (ForwardEntry to slot) allowed short = allowed.slot_low
+
 pub in_form : (view : PagesView) {key : PageKey} (space : ℕ) → view.in_memory key ≡ true → (result : Result Entry PageFault) → IfOk result (IsAllowed space) → IfOk result (λ found. length_of found ≤ body_most) → IfOk result (IsInForm view key)
-in_form view space there (Ok EmptyEntry) allowed short = tt
-in_form view space there (Ok (HereEntry place length)) allowed short = record { there = there; stands = allowed; short = short }
-in_form view space there (Ok (ForwardEntry to slot)) allowed short = allowed.slot_low
+in_form view space there (Ok found) allowed short = entry_in_form view space there found allowed short
 in_form view space there (Err fault) allowed short = tt
+
+pub taken_in_form : (view : PagesView) {key : PageKey} (space : ℕ) → view.in_memory key ≡ true → (result : Result (Option (ℕ × Entry)) PageFault) → IfOk result (λ found. IfSome found (λ taken. IsAllowed space taken.1)) → IfOk result (λ found. IfSome found (λ taken. length_of taken.1 ≤ body_most))
+    → IfOk result (λ found. IfSome found (λ taken. IsInForm view key taken.1))
+taken_in_form view space there (Ok None) allowed short = tt
+taken_in_form view space there (Ok (Some taken)) allowed short = entry_in_form view space there taken.1 allowed short
+taken_in_form view space there (Err fault) allowed short = tt

@@ -11,8 +11,8 @@ use Rattle.rss_base.proofs.Steps.{is_in}
 use Rattle.rss_page.specs.Content.{Empty}
 use Rattle.rss_tuple.specs.Directory.{contents, contents_in, content_at, homes, overflows}
 use Rattle.rss_base.specs.Looking.{LooksStep}
-use Rattle.rss_tuple.specs.Checked.{Rows, rows_on, tuples_of, IsNoted}
-use Rattle.rss_tuple.specs.Looks.{IsNotedAt, AreMarked, Sees, in_front, AreSeen}
+use Rattle.rss_tuple.specs.Checked.{Rows, rows_on, tuples_of}
+use Rattle.rss_tuple.specs.Looks.{IsRightAt, IsRoomNoted, IsNotedAt, AreMarked, Sees, in_front, AreSeen}
 use Rattle.rss_base.proofs.Looking.{looks_then, looks_within}
 use Rattle.rss_tuple.proofs.Sets.{none_held}
 use Rattle.rss_tuple.proofs.SeenHomes.{seen_same, front_page, front_pages, front_next, front_whole, tuples_skip, tuples_more, sees_as, sees_then}
@@ -31,6 +31,9 @@ module _ (start now : PagesView) (segment : ℕ) (space : Space) (from limit : �
   pub noted_between : (new : PagesView) → IsTold start.disk → (k : ℕ) → from ≤ k → k < limit → IsNotedAt start.held new (page_key segment space k)
   noted_between new told k low high = λ bytes is. absurd (let never : None ≡ Some bytes = sym (none_between told k low high) ∙ is in cc)
 
+  pub right_between : IsTold start.disk → (k : ℕ) → from ≤ k → k < limit → IsRightAt start.held (page_key segment space k)
+  right_between told k low high = λ bytes is. absurd (let never : None ≡ Some bytes = sym (none_between told k low high) ∙ is in cc)
+
   pub marked_between : (word : ℕ) → IsTold start.disk → (k : ℕ) → from ≤ k → k < limit → AreMarked (contents start.held (page_key segment space k)) word
   marked_between word told k low high = λ slot few some. absurd (some (empty_between told k slot low high))
 
@@ -38,7 +41,7 @@ module _ (start now : PagesView) (segment : ℕ) (space : Space) (from limit : �
 pub noted_more : {touched : Keys} {cost asks : ℕ} {start now new : PagesView} (segment : ℕ) (space : Space) (from number : ℕ) → LooksStep touched cost start now → (IsTold start.disk → (key : PageKey) → is_some (start.held key) ≡ start.mapped key) → ((k : ℕ) → from ≤ k → k < number → IsMappedAt now.mapped segment space k → ⊥) → from ≤ number → IsTold start.disk
     → LooksStep (only (page_key segment space number)) asks now new → ((k : ℕ) → k < from → IsNotedAt start.held now (page_key segment space k)) → (IsTold now.disk → IsNotedAt now.held new (page_key segment space number)) → (k : ℕ) → k < number + 1 → IsNotedAt start.held new (page_key segment space k)
 noted_more {start = start} {now = now} {new = new} segment space from number so holds none later told looks before last k low = elim (cases_lt k from) [
-  | inl early ↦ λ bytes is. subst (λ (n : Option ℕ). IsNoted (page_key segment space k) bytes n) (sym (looks.step.notes_off (page_key segment space k) (λ at. let here : k ≡ number = ap (λ (key : PageKey). key.number) at in omega arith))) (before k early bytes is)
+  | inl early ↦ λ bytes is. subst (λ (n : Option ℕ). IsRoomNoted (page_key segment space k) bytes n) (sym (looks.step.notes_off (page_key segment space k) (λ at. let here : k ≡ number = ap (λ (key : PageKey). key.number) at in omega arith))) (before k early bytes is)
   | inr late ↦ elim (cases_lt k number) [
     | inl between ↦ noted_between start now segment space from number so.mapped holds none new told k late between
     | inr there ↦
@@ -99,3 +102,37 @@ module _ {V : Type 0} {is_good : V → List ℕ → Bool} {saw : V → Rows → 
 
   pub shown_more : {first old new : V} → Sees is_good saw first old (tuples_of held segment from) → Sees is_good saw old new (rows_on held segment number) → Sees is_good saw first new (tuples_of held segment (number + 1))
   shown_more before last = sees_as (sym (tuples_more held segment number)) (sees_then (shown_all before) last)
+
+-- the pages in front of the next one are right
+pub right_next : {touched : Keys} {cost : ℕ} {start now : PagesView} (segment : ℕ) (space : Space) (first from number : ℕ) → LooksStep touched cost start now → (IsTold start.disk → (key : PageKey) → is_some (start.held key) ≡ start.mapped key) → ((k : ℕ) → from ≤ k → k < number → IsMappedAt now.mapped segment space k → ⊥) → IsTold start.disk
+    → ((k : ℕ) → first ≤ k → k < from → IsRightAt start.held (page_key segment space k)) → (k : ℕ) → first ≤ k → k < number → IsRightAt start.held (page_key segment space k)
+right_next {start = start} {now = now} segment space first from number so holds none told before k over low = elim (cases_lt k from) [
+  | inl early ↦ before k over early
+  | inr late ↦ right_between start now segment space from number so.mapped holds none told k late low
+]
+
+-- and then that one
+pub right_more : {touched : Keys} {cost : ℕ} {start now : PagesView} (segment : ℕ) (space : Space) (first from number : ℕ) → LooksStep touched cost start now → (IsTold start.disk → (key : PageKey) → is_some (start.held key) ≡ start.mapped key) → ((k : ℕ) → from ≤ k → k < number → IsMappedAt now.mapped segment space k → ⊥) → IsTold start.disk
+    → ((k : ℕ) → first ≤ k → k < from → IsRightAt start.held (page_key segment space k)) → IsRightAt start.held (page_key segment space number) → (k : ℕ) → first ≤ k → k < number + 1 → IsRightAt start.held (page_key segment space k)
+right_more {start = start} {now = now} segment space first from number so holds none told before last k over low = elim (cases_lt k number) [
+  | inl early ↦ right_next {start = start} {now = now} segment space first from number so holds none told before k over early
+  | inr there ↦
+      let at : number ≡ k = omega arith in
+      subst (λ (n : ℕ). IsRightAt start.held (page_key segment space n)) at last
+]
+
+-- all are
+pub right_rest : {touched : Keys} {cost : ℕ} {start now : PagesView} (segment : ℕ) (space : Space) (first from : ℕ) → LooksStep touched cost start now → (IsTold start.disk → (key : PageKey) → is_some (start.held key) ≡ start.mapped key) → ((k : ℕ) → from ≤ k → IsMappedAt now.mapped segment space k → ⊥) → IsTold start.disk
+    → ((k : ℕ) → first ≤ k → k < from → IsRightAt start.held (page_key segment space k)) → (k : ℕ) → first ≤ k → IsRightAt start.held (page_key segment space k)
+right_rest {start = start} {now = now} segment space first from so holds none told before k over = elim (cases_lt k from) [
+  | inl early ↦ before k over early
+  | inr late ↦ right_between start now segment space from (k + 1) so.mapped holds (λ n low high. none n low) told k late (omega arith)
+]
+
+-- what stands in front of the next page is marked
+pub marked_next : {touched : Keys} {cost : ℕ} {start now : PagesView} (segment : ℕ) (space : Space) (from number : ℕ) (marks : List ℕ) → LooksStep touched cost start now → (IsTold start.disk → (key : PageKey) → is_some (start.held key) ≡ start.mapped key) → ((k : ℕ) → from ≤ k → k < number → IsMappedAt now.mapped segment space k → ⊥) → IsTold start.disk
+    → ((k : ℕ) → k < from → AreMarked (contents start.held (page_key segment space k)) (get_or marks k 0)) → (k : ℕ) → k < number → AreMarked (contents start.held (page_key segment space k)) (get_or marks k 0)
+marked_next {start = start} {now = now} segment space from number marks so holds none told before k low = elim (cases_lt k from) [
+  | inl early ↦ before k early
+  | inr late ↦ marked_between start now segment space from number so.mapped holds none (get_or marks k 0) told k late low
+]

@@ -1,6 +1,6 @@
 -- What pages say, through calls that change none of them.
 use Rattle.std.proofs.Common.{◌≡◌, ℕ, ◌≤◌, true, List, Option, Some, None, get_or, refl, sym, ◌∙◌, ap, subst, arith}
-use Rattle.std.specs.Prelude.{is_some, Result, Ok, Err, IfOk, IfErr, OnOk, OnErr, IsErrAnd}
+use Rattle.std.specs.Prelude.{is_some, Result, Ok, Err, IfSome, IfOk, IfErr, OnOk, OnErr, IsErrAnd}
 use Rattle.std.proofs.lemmas.List.{get_or_past}
 use Rattle.rss_base.specs.DiskRule.{IsTold}
 use Rattle.rss_base.specs.Paged.{Held}
@@ -22,6 +22,10 @@ use Rattle.rss_tuple.specs.TupleSteps.{Tuples, TuplesView, TuplesCall, tuples_in
 pub on_ok : {T E : Type 0} {P : Type 0} (result : Result T E) → P → OnOk result P
 on_ok (Ok value) fact = fact
 on_ok (Err e) fact = tt
+
+pub on_err : {T E : Type 0} {P : Type 0} (result : Result T E) → P → OnErr result P
+on_err (Ok value) fact = tt
+on_err (Err e) fact = fact
 
 -- ---- entries
 
@@ -101,6 +105,10 @@ on_ok_then (Err e) follows fact = tt
 pub not_ok : {U : Type 0} (fault : PageFault) (P : Type 0) (result : Result U PageFault) → IsErrAnd result (λ why. why ≡ fault) → OnOk result P
 not_ok fault P (Ok value) is = absurd is
 not_ok fault P (Err e) is = tt
+
+pub if_some_then : {T : Type 0} {P Q : T → Type 0} (found : Option T) → ((value : T) → P value → Q value) → IfSome found P → IfSome found Q
+if_some_then None follows fact = tt
+if_some_then (Some value) follows fact = follows value fact
 
 pub if_ok_then : {T E : Type 0} {P Q : T → Type 0} (result : Result T E) → ((value : T) → P value → Q value) → IfOk result P → IfOk result Q
 if_ok_then (Ok value) follows fact = follows value fact

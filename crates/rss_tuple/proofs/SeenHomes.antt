@@ -1,5 +1,5 @@
 -- Home entries that were looked at, one after the other, and the tuples that stand there.
-use Rattle.std.proofs.Common.{◌≡◌, ◌⊎◌, inl, inr, ℕ, ◌+◌, ◌<◌, ◌≤◌, Bool, true, List, [], ◌∷◌, ◌++◌, Some, None, refl, sym, ◌∙◌, ap, subst, arith, append_assoc, append-nil, zero, suc, ◌-◌}
+use Rattle.std.proofs.Common.{◌≡◌, ◌⊎◌, inl, inr, ℕ, ◌+◌, ◌<◌, ◌≤◌, Bool, List, [], ◌∷◌, ◌++◌, Some, None, refl, sym, ◌∙◌, ap, subst, arith, append_assoc, append-nil, zero, suc, ◌-◌}
 use Rattle.std.specs.Prelude.{flat_map, map}
 use Rattle.std.specs.List.{range_with_len}
 use Rattle.std.proofs.lemmas.Bool.{cases_lt}
@@ -10,7 +10,6 @@ use Rattle.rss_base.specs.Paged.{Held, page_key}
 use Rattle.rss_base.specs.declared.key.Space.TheVariants.{Home}
 use Rattle.rss_page.specs.Content.{Content, Empty, Forward}
 use Rattle.rss_tuple.specs.Directory.{Entries, homes, overflows, body_by, tid_at}
-use Rattle.rss_tuple.specs.Heaps.{AreLinked}
 use Rattle.rss_tuple.specs.Checked.{Rows, row_of, row_at, rows_on, tuples_of}
 use Rattle.rss_tuple.specs.Looks.{Sees, Spots, in_front, IsMarked, MarksGoal, MayHold, AreSeen}
 use Rattle.rss_tuple.proofs.Seen.{high_empty}
@@ -73,17 +72,6 @@ module _ (home overflow : Entries) (is_good : List ℕ → Bool) (marks : List �
         same : (p s : ℕ) → (p ≡ page) × (s ≡ slot) → home page slot ≡ home p s
         same p s at = ap (λ (n : ℕ). home n slot) (sym at.0) ∙ ap (λ (n : ℕ). home p n) (sym at.1)
 
-    -- where all pages are sound, another entry is as it should be
-    pub may_hold : (spots page slot → ⊥) → AreLinked home overflow → ((body : List ℕ) → body_by overflow (home page slot) ≡ Some body → is_good body ≡ true) → MayHold overflow marks is_good (home page slot)
-    may_hold off linked good = record {
-      leads = λ tp ts forward. linked.leads page slot tp ts forward;
-      fresh = λ tp ts forward marked.
-          let by = seen.led tp ts marked in
-          let same = linked.once page slot by.from_page by.from_slot tp ts forward by.forward in
-          off (subst (λ (n : ℕ). spots n slot) same.0 (subst (λ (n : ℕ). spots by.from_page n) same.1 by.inside));
-      good = good;
-    }
-
 -- before the first one
 pub seen_none : (home overflow : Entries) (is_good : List ℕ → Bool) (marks : List ℕ) → ((page slot : ℕ) → IsMarked marks page slot → ⊥) → AreSeen home overflow is_good marks (in_front 0 0)
 seen_none home overflow is_good marks none = record {
@@ -116,9 +104,6 @@ front_within page slot p s inside = elim inside [
 
 pub front_here : (page slot : ℕ) → in_front page (slot + 1) page slot
 front_here page slot = inr (refl, omega arith)
-
-pub front_off : (page slot : ℕ) → in_front page slot page slot → ⊥
-front_off page slot inside = elim inside [ inl before ↦ omega arith | inr at ↦ omega (arith, at.1) ]
 
 -- those in front of a page, where the pages in between hold nothing
 pub front_page : (home : Entries) (from number : ℕ) → from ≤ number → ((p s : ℕ) → from ≤ p → p < number → home p s ≡ Empty) → (p s : ℕ) → in_front number 0 p s → in_front from 0 p s ⊎ (home p s ≡ Empty)

@@ -1,15 +1,18 @@
 -- What is found of a tuple in pages.
-use Rattle.std.specs.Prelude.{◌≡◌, ◌⊎◌, ℕ, ◌<◌, ◌≤◌, Bool, true, false, List, length, Option, MatchOption}
-use Rattle.rss_base.specs.Paged.{Held}
+use Rattle.std.specs.Prelude.{◌≡◌, ◌⊎◌, ℕ, ◌<◌, ◌≤◌, Bool, true, false, List, length, Option, Some, MatchOption}
+use Rattle.rss_base.specs.Paged.{Held, page_key}
 use Rattle.rss_base.specs.Sizes.{page_entries}
 use Rattle.rss_base.specs.Steps.{PagesView}
 use Rattle.rss_base.specs.declared.key.PageKey.{PageKey}
+use Rattle.rss_base.specs.declared.key.Space.TheVariants.{Home}
 use Rattle.rss_base.specs.declared.tid.Tid.{Tid}
 use Rattle.rss_page.specs.Content.{Content, Empty, Here, Forward}
 use Rattle.rss_page.specs.Surveyed.{held_at}
 use Rattle.rss_page.specs.declared.entry_form.Entry.{Entry}
 use Rattle.rss_page.specs.declared.entry_form.Entry.TheVariants.{Empty as EmptyEntry, Here as HereEntry, Forward as ForwardEntry}
 use Rattle.rss_base.specs.Tids.{IsAfter}
+use Rattle.rss_tuple.specs.Directory.{content_at}
+use Rattle.rss_tuple.specs.declared.body_at.BodyAt.{BodyAt}
 use Rattle.rss_tuple.specs.Located.{place_in, IsInMemory, StandsAt}
 use Rattle.rss_tuple.specs.TupleSteps.{TuplesView, IsLive, IsLeast, NoneIs}
 
@@ -32,6 +35,12 @@ IsInForm view key EmptyEntry = Unit {0}
 IsInForm view key (HereEntry place length) = IsInMemory view (place_in key place length)
 IsInForm view key (ForwardEntry page slot) = slot < page_entries
 
+-- what the home page of an identifier has for it is what an entry of the page says that is there now
+abbrev pub IsHeldAt : PagesView → PagesView → ℕ → Tid → Entry → Type 0
+IsHeldAt old new segment tid entry =
+    let key = page_key segment Home tid.page in
+    IsHeldBy new.held key (content_at old.held key tid.slot) entry
+
 -- ---- the next tuple
 
 -- an identifier stands at this one or behind it
@@ -46,6 +55,16 @@ pub record IsNext (view : TuplesView) (segment : ℕ) (after : Option Tid) (tid 
 -- the least of them, if there is one
 abbrev pub FindsNext : TuplesView → ℕ → Option Tid → Option Tid → Type 0
 FindsNext view segment after found = MatchOption found (NoneIs (IsNext view segment after)) (IsLeast (IsNext view segment after))
+
+-- the least of them, and where its body stands
+pub record IsNextAt (view : TuplesView) (segment : ℕ) (after : Option Tid) (held : Held) (next : Tid × BodyAt) : Type 0 where
+  pub least : IsLeast (IsNext view segment after) next.0
+  pub stands : StandsAt held (λ bytes. view.bodies segment next.0 ≡ Some bytes) next.1
+
+-- if there is one
+abbrev pub FindsNextAt : TuplesView → ℕ → Option Tid → Held → Option (Tid × BodyAt) → Type 0
+FindsNextAt view segment after held found =
+    MatchOption found (NoneIs (IsNext view segment after)) (IsNextAt view segment after held)
 
 -- the first slot from one on that holds something
 pub record IsFirstTaken (contents : List Content) (from slot : ℕ) : Type 0 where

@@ -10,4 +10,5 @@ pub mod Spots
 pub mod Puts
 pub mod Picks
 pub mod Checked
+pub mod Flaws
 pub mod Looks

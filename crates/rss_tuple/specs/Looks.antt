@@ -1,40 +1,43 @@
 -- How a look through the pages of a segment goes on, page by page and entry by entry.
-use Rattle.std.specs.Prelude.{◌≡◌, ◌⊎◌, ◌↔◌, ℕ, ◌<◌, ◌≤◌, Bool, true, List, ◌++◌, length, slice_index_or, Some, None, Result, Err, IsErrOf}
+use Rattle.std.specs.Prelude.{◌≡◌, ◌⊎◌, ◌↔◌, ℕ, ◌<◌, ◌≤◌, Bool, List, ◌++◌, length, slice_index_or, Option, Some, IfSome, Result, Err, IsErrOf}
 use Rattle.std.specs.Int.{bit_at}
 use Rattle.rss_base.specs.Sizes.{page_entries}
 use Rattle.rss_base.specs.DiskRule.{IsTold}
 use Rattle.rss_base.specs.Paged.{Held, page_key}
 use Rattle.rss_base.specs.Faults.{Rises}
-use Rattle.rss_base.specs.Steps.{PagesView, Keys}
+use Rattle.rss_base.specs.Steps.{PagesView, Keys, pages_in}
 use Rattle.rss_base.specs.declared.place.Place.{Place}
 use Rattle.rss_base.specs.declared.place.Place.TheVariants.{Room}
 use Rattle.rss_base.specs.declared.fault.PageFault.{PageFault}
 use Rattle.rss_base.specs.declared.fault.PageFault.TheVariants.{Device as DeviceFailed, Damaged}
+use Rattle.rss_base.specs.Tids.{IsBelow}
 use Rattle.rss_base.specs.declared.key.PageKey.{PageKey}
+use Rattle.rss_base.specs.declared.key.Space.{Space}
 use Rattle.rss_base.specs.declared.key.Space.TheVariants.{Overflow}
+use Rattle.rss_base.specs.declared.tid.Tid.{Tid}
 use Rattle.rss_page.specs.Content.{Content, Empty, Here, Forward}
-use Rattle.rss_page.specs.Slotted.{IsWellFormed}
+use Rattle.rss_page.specs.Slotted.{entries, IsWellFormed}
 use Rattle.rss_page.specs.Surveyed.{held_at}
 use Rattle.rss_tuple.specs.Directory.{Entries, contents, overflows, body_by}
-use Rattle.rss_tuple.specs.Heaps.{body_most, IsHeap, HasBody}
+use Rattle.rss_tuple.specs.Heaps.{CoversRoom, HasBody}
+use Rattle.rss_tuple.specs.Spots.{IsRoom}
 use Rattle.rss_base.specs.Looking.{LooksStep}
-use Rattle.rss_tuple.specs.Checked.{Rows, IsNoted}
+use Rattle.rss_tuple.specs.Checked.{Rows}
+use Rattle.rss_tuple.specs.Flaws.{IsPageRight, IsBodyRight, IsEntryRight}
 
 -- ---- calls that look
 
--- What a call that looks at pages passes on, by its result: where damage is found on a device that tells its contents, the pages are not as they should be.
-pub record LooksCall {T : Type 0} (sound : Type 0) (noted : Keys) (asks : ℕ)
+-- What a call that looks at pages passes on, by its result: the damage that is found on a device that tells its contents is at such a place.
+pub record LooksCall {T : Type 0} (names : Place → Type 0) (noted : Keys) (asks : ℕ)
     (old new : PagesView) (result : Result T PageFault) : Type 0 where
   pub looks : LooksStep noted asks old new
   pub failed : IsErrOf result DeviceFailed → Rises old.faults new.faults
-  pub flawed : (place : Place) → result ≡ Err (Damaged place) → IsTold old.disk → sound → ⊥
+  pub flawed : (place : Place) → result ≡ Err (Damaged place) → IsTold old.disk → names place
   pub elsewhere : IsErrOf result (Damaged Room) → ⊥
 
--- it names damage, and not the room for changes
-pub record NamesDamage (fault : PageFault) : Type 0 where
-  pub place : Place
-  pub is : fault ≡ Damaged place
-  pub elsewhere : place ≡ Room → ⊥
+-- no place is named
+abbrev pub nowhere : Place → Type 0
+nowhere place = ⊥
 
 -- The visitor saw these tuples, behind those that it had seen before, and its rule is the same.
 pub record Sees {V : Type 0} (is_good : V → List ℕ → Bool) (saw : V → Rows → Type 0)
@@ -44,22 +47,28 @@ pub record Sees {V : Type 0} (is_good : V → List ℕ → Bool) (saw : V → Ro
 
 -- ---- a page by itself
 
--- no body is longer than that of a tuple
-abbrev pub AreShort : List Content → Type 0
-AreShort contents =
-    (slot : ℕ) (body : List ℕ) → held_at contents slot ≡ Here body → length body ≤ body_most
+-- the pages of a space of a segment from a number on
+abbrev pub pages_from : ℕ → Space → ℕ → Keys
+pages_from segment space from key = pages_in segment space key × (from ≤ key.number)
 
--- the page of this key is one of a tuple store's
-abbrev pub IsSoundAt : Held → PageKey → Type 0
-IsSoundAt held key = (bytes : List ℕ) → held key ≡ Some bytes → IsHeap key bytes None
+-- the page of this key is right
+abbrev pub IsRightAt : Held → PageKey → Type 0
+IsRightAt held key = (bytes : List ℕ) → held key ≡ Some bytes → IsPageRight key bytes
 
--- and the note on it is its room
+-- A page is right, and the note on it is its room.
+pub record IsRoomNoted (key : PageKey) (bytes : List ℕ) (note : Option ℕ) : Type 0 where
+  pub right : IsPageRight key bytes
+  pub room : ℕ
+  pub is : note ≡ Some room
+  pub exact : IsRoom (entries bytes) room
+  pub covers : IfSome note (CoversRoom (entries bytes))
+
 abbrev pub IsNotedAt : Held → PagesView → PageKey → Type 0
-IsNotedAt held now key = (bytes : List ℕ) → held key ≡ Some bytes → IsNoted key bytes (now.notes key)
+IsNotedAt held now key = (bytes : List ℕ) → held key ≡ Some bytes → IsRoomNoted key bytes (now.notes key)
 
 -- the page of this key was looked at and noted
 pub record LooksAt (key : PageKey) (bytes : List ℕ) (old new : PagesView) : Type 0 where
-  pub noted : IsNoted key bytes (new.notes key)
+  pub noted : IsRoomNoted key bytes (new.notes key)
   pub held : IsTold old.disk → old.held key ≡ Some bytes
 
 -- ---- marks: one bit for each entry of an overflow page, in one word a page
@@ -83,15 +92,17 @@ abbrev pub AreAllMarked : Held → ℕ → List ℕ → Type 0
 AreAllMarked held segment marks =
     (page : ℕ) → AreMarked (contents held (page_key segment Overflow page)) (slice_index_or marks page 0)
 
--- an overflow page is as it should be
-pub record IsSoundOverflow (held : Held) (key : PageKey) (word : ℕ) : Type 0 where
-  pub heap : IsSoundAt held key
-  pub marked : AreMarked (contents held key) word
+-- an entry holds something, and isn't marked
+pub record HasUnmarked (contents : List Content) (word : ℕ) : Type 0 where
+  pub slot : ℕ
+  pub holds : held_at contents slot ≡ Empty → ⊥
+  pub unmarked : bit_at word slot ≡ 1 → ⊥
 
--- and each one of a segment
-abbrev pub AreSoundOverflows : Held → ℕ → List ℕ → Type 0
-AreSoundOverflows held segment marks =
-    (page : ℕ) → IsSoundOverflow held (page_key segment Overflow page) (slice_index_or marks page 0)
+-- It is the first overflow page of a segment with such an entry.
+pub record IsFirstUnmarked (held : Held) (segment : ℕ) (marks : List ℕ) (page : ℕ) : Type 0 where
+  pub has : HasUnmarked (contents held (page_key segment Overflow page)) (slice_index_or marks page 0)
+  pub earlier : (other : ℕ) → other < page
+      → AreMarked (contents held (page_key segment Overflow other)) (slice_index_or marks other 0)
 
 -- ---- an entry of a home page
 
@@ -99,20 +110,25 @@ AreSoundOverflows held segment marks =
 pub record HasGood (is_good : List ℕ → Bool) (content : Content) : Type 0 where
   pub body : List ℕ
   pub is : content ≡ Here body
-  pub good : is_good body ≡ true
+  pub good : IsBodyRight is_good body
 
 -- The entry leads to a body, if it leads anywhere, and to no entry that is marked; and its body may stand there.
 pub record MayHold (overflow : Entries) (marks : List ℕ) (is_good : List ℕ → Bool)
     (content : Content) : Type 0 where
   pub leads : (page slot : ℕ) → content ≡ Forward page slot → HasBody (overflow page slot)
   pub fresh : (page slot : ℕ) → content ≡ Forward page slot → IsMarked marks page slot → ⊥
-  pub good : (body : List ℕ) → body_by overflow content ≡ Some body → is_good body ≡ true
+  pub good : (body : List ℕ) → body_by overflow content ≡ Some body → IsBodyRight is_good body
 
--- and the overflow pages are well-formed
+-- the overflow pages of a segment are well-formed
+abbrev pub AreOverflowsFormed : Held → ℕ → Type 0
+AreOverflowsFormed held segment =
+    (page : ℕ) (bytes : List ℕ) → held (page_key segment Overflow page) ≡ Some bytes
+    → IsWellFormed (page_key segment Overflow page) bytes
+
+-- so they are, and the entry is as above
 pub record MayStand (held : Held) (segment : ℕ) (marks : List ℕ) (is_good : List ℕ → Bool)
     (content : Content) : Type 0 where
-  pub formed : (page : ℕ) (bytes : List ℕ) → held (page_key segment Overflow page) ≡ Some bytes
-      → IsWellFormed (page_key segment Overflow page) bytes
+  pub formed : AreOverflowsFormed held segment
   pub holds : MayHold (overflows held segment) marks is_good content
 
 -- ---- all entries that were looked at
@@ -145,4 +161,9 @@ pub record AreSeen (home overflow : Entries) (is_good : List ℕ → Bool) (mark
       → home other_page other_slot ≡ Forward to_page to_slot
       → (other_page ≡ page) × (other_slot ≡ slot)
   pub good : (page slot : ℕ) (body : List ℕ) → spots page slot
-      → body_by overflow (home page slot) ≡ Some body → is_good body ≡ true
+      → body_by overflow (home page slot) ≡ Some body → IsBodyRight is_good body
+
+-- The entries of all lesser identifiers are right. That of this one isn't, where the overflow pages are well-formed.
+pub record StopsAt (held : Held) (segment : ℕ) (is_good : List ℕ → Bool) (tid : Tid) : Type 0 where
+  pub earlier : (other : Tid) → IsBelow other tid → IsEntryRight held segment is_good other
+  pub wrong : AreOverflowsFormed held segment → IsEntryRight held segment is_good tid → ⊥

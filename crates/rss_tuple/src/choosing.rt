@@ -36,7 +36,7 @@ fn first_new<P: Pages>(pages: &P, segment: u8, barred: &[Tid]) -> Option<Tid>
 }
 
 /// The identifier that a new tuple with a body of this length gets: one that no tuple has and that
-/// isn't barred. None exactly where there is none.
+/// isn't barred. None exactly if there is none.
 pub(crate) fn choose<P: Pages>(
     pages: &mut P,
     page: &mut Page,

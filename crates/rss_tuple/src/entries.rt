@@ -22,7 +22,7 @@ use rss_page::{
     remove, survey,
 };
 
-/// Brings a page into memory that is to be mapped; where it isn't, it is damaged. A caller copies it
+/// Brings a page into memory that is to be mapped; if it isn't, it is damaged. A caller copies it
 /// from there, since a buffer to read it into would have to be zeroed before.
 pub(crate) fn load_there<P: Pages>(pages: &mut P, key: PageKey) -> Result<(), PageFault>
     requires { MayRead (P.view pages.old) key }
@@ -178,8 +178,8 @@ pub(crate) fn clear_in<P: Pages>(
     Ok(())
 }
 
-/// Empties an entry of a page that was copied, where a body is to stand. Where the page isn't that of
-/// this key, or has no body there, it is damaged.
+/// Empties an entry of a page that was copied, in which a body is to stand. If the page isn't that
+/// of this key, or has no body there, it is damaged.
 fn clear_body<P: Pages>(
     pages: &mut P,
     key: PageKey,
@@ -202,7 +202,7 @@ fn clear_body<P: Pages>(
     }
 }
 
-/// Empties an entry of a page, where a body is to stand.
+/// Empties an entry of a page, in which a body is to stand.
 pub(crate) fn clear<P: Pages>(pages: &mut P, key: PageKey, slot: u8) -> Result<(), PageFault>
     requires may { MayRead (P.view pages.old) key }
     requires low { slot < page_entries }

@@ -21,7 +21,7 @@ use rss_page::{ENTRIES, Entry, Survey, entry, survey};
 /// For each slot of a page, whether its identifier is barred.
 type Slots = [bool; PAGE_ENTRIES];
 
-/// The slots of the page of this number that are barred.
+/// The slots of the page `number` that are barred.
 fn barred_slots(number: u32, barred: &[Tid]) -> Slots
     ensures { AreBarred barred.now number result }
 {
@@ -74,7 +74,7 @@ fn spot_in(page: &Page, number: u32, length: u16, barred: &[Tid], found: &Survey
     first_open(page, number, barred)
 }
 
-/// What is noted on a page: 0 where no entry is empty, else 1 and the free bytes.
+/// What is noted on a page: 0 if no entry is empty, otherwise 1 and the free bytes.
 pub(crate) fn room_of(page: &Page, found: &Survey) -> u16
     requires { IsSurvey page.now found.now }
     ensures { IsRoom (entries page.now) result }
@@ -92,8 +92,8 @@ pub(crate) struct Spot {
     pub(crate) found: Survey,
 }
 
-/// Looks for such a slot in a mapped page. Where there is one, the page is left in `into`; where
-/// there is none, the page's room is noted.
+/// Looks for such a slot in a mapped page. If there is one, the page is left in `into`; if there is
+/// none, the page's room is noted.
 fn try_page<P: Pages>(
     pages: &mut P,
     key: PageKey,

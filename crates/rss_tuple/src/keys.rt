@@ -7,7 +7,7 @@ ghost use Rattle.rss_base.specs.declared.place.Place.TheVariants.{Page as PagePl
 
 use rss_base::{PageFault, PageKey, Place, Space};
 
-/// The home page of this number.
+/// The home page `number`.
 pub(crate) fn home(segment: u8, number: u32) -> PageKey
     ensures { result ≡ page_key segment Home number }
 {
@@ -18,7 +18,7 @@ pub(crate) fn home(segment: u8, number: u32) -> PageKey
     }
 }
 
-/// The overflow page of this number.
+/// The overflow page `number`.
 pub(crate) fn overflow(segment: u8, number: u32) -> PageKey
     ensures { result ≡ page_key segment Overflow number }
 {

@@ -6,6 +6,7 @@ mod checking;
 mod choosing;
 mod entries;
 mod finding;
+mod flaw;
 mod keys;
 mod placing;
 mod reading;
@@ -15,5 +16,6 @@ mod walking;
 
 pub use body_at::BodyAt;
 pub use checking::{Visitor, check};
+pub use flaw::Flaw;
 pub use store::Store;
 pub use tuples::Tuples;

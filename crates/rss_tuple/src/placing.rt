@@ -45,7 +45,7 @@ fn put_on_new<P: Pages>(pages: &mut P, segment: u8, body: &[u8]) -> Result<u32, 
     Ok(number)
 }
 
-/// Tests that a page is spare for a tuple's body. Where none is, the tuple's home page isn't what it
+/// Tests that a page is spare for a tuple's body. If none is, the tuple's home page isn't what it
 /// should be.
 fn have_spare<P: Pages>(pages: &P, segment: u8, tid: Tid) -> Result<(), PageFault>
     ensures spare { OnOk result (0 < (P.view pages.now).spare) }
@@ -60,7 +60,7 @@ fn have_spare<P: Pages>(pages: &P, segment: u8, tid: Tid) -> Result<(), PageFaul
 }
 
 /// Puts a body into the first overflow page with a free entry and the bytes, or into a new one, and
-/// answers where it stands. Where no page is spare, the tuple's home page isn't what it should be.
+/// answers where it stands. If no page is spare, the tuple's home page isn't what it should be.
 fn put_away<P: Pages>(pages: &mut P, segment: u8, tid: Tid, body: &[u8]) -> Result<Tid, PageFault>
     requires may { MayPut segment (length body.now) }
     requires room { IsTold (P.view pages.old).disk → 0 < (P.view pages.old).spare }
@@ -89,7 +89,7 @@ fn put_away<P: Pages>(pages: &mut P, segment: u8, tid: Tid, body: &[u8]) -> Resu
     }
 }
 
-/// Puts a body into its home entry where it fits there, else into an overflow page, to which the
+/// Puts a body into its home entry if it fits there, otherwise into an overflow page, to which the
 /// home entry leads then.
 fn place<P: Pages>(
     pages: &mut P,
@@ -124,7 +124,7 @@ fn place<P: Pages>(
 
 // ---- the calls, by the entries of pages
 
-/// Puts a tuple at an identifier that none has. The home page is taken where it isn't mapped.
+/// Puts a tuple at an identifier that none has. The home page is taken if it isn't mapped.
 pub(crate) fn insert_at<P: Pages>(
     pages: &mut P,
     segment: u8,
@@ -165,7 +165,7 @@ pub(crate) fn remove<P: Pages>(pages: &mut P, segment: u8, tid: Tid) -> Result<(
     remove_from(pages, segment, tid, &mut page)
 }
 
-/// Takes a tuple away whose home page was copied. Where the page isn't that of this key, or has no
+/// Takes a tuple away whose home page was copied. If the page isn't that of this key, or has no
 /// tuple there, it is damaged.
 fn remove_from<P: Pages>(
     pages: &mut P,
@@ -222,8 +222,8 @@ pub(crate) fn replace<P: Pages>(
     replace_in(pages, segment, tid, &mut page, body)
 }
 
-/// Puts another body in place of that of a tuple whose home page was copied. Where the page isn't
-/// that of this key, or has no tuple there, it is damaged.
+/// Puts another body in place of that of a tuple whose home page was copied. If the page isn't that
+/// of this key, or has no tuple there, it is damaged.
 fn replace_in<P: Pages>(
     pages: &mut P,
     segment: u8,
@@ -256,8 +256,8 @@ fn replace_in<P: Pages>(
     }
 }
 
-/// Whether a body of this length stays in the overflow page where it stands: it fits there, and not at
-/// home. Then the page is left in `away`, and what a walk over it finds is answered. Where no body
+/// Whether a body of this length stays in the overflow page where it stands: it fits there, and not
+/// at home. Then the page is left in `away`, and what a walk over it finds is answered. If no body
 /// stands there, the page is damaged.
 fn stays<P: Pages>(
     pages: &mut P,

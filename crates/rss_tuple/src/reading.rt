@@ -2,8 +2,10 @@
 ghost use Rattle.std.specs.Prelude.{◌≡◌, ◌<◌, ◌≤◌, ℕ, List, length, slice_index_or};
 ghost use Rattle.std.specs.Prelude.{IfOk, IfErr, IfSome, OnOk, OnErr};
 ghost use Rattle.rss_base.specs.DiskRule.{IsTold};
+ghost use Rattle.rss_base.specs.Paged.{page_key};
 ghost use Rattle.rss_base.specs.Sizes.{page_entries};
 ghost use Rattle.rss_base.specs.Steps.{PagesCall, no_page};
+ghost use Rattle.rss_base.specs.declared.key.Space.TheVariants.{Home};
 ghost use Rattle.rss_base.specs.declared.fault.PageFault.TheVariants.{Damaged as PageDamaged};
 ghost use Rattle.rss_base.specs.declared.place.Place.TheVariants.{Page as PagePlace};
 ghost use Rattle.rss_page.specs.Content.{Here};
@@ -37,7 +39,29 @@ pub(crate) fn locate<P: Pages>(
         return Ok(None);
     }
     let key = home(segment, tid.page);
-    match look(pages, key, tid.slot as u8)? {
+    let found = look(pages, key, tid.slot as u8)?;
+    led(pages, segment, tid, key, found)
+}
+
+/// Where the body stands that the entry of a tuple's home page has or leads to, if it holds anything.
+pub(crate) fn led<P: Pages>(
+    pages: &mut P,
+    segment: u8,
+    tid: Tid,
+    key: PageKey,
+    found: Entry,
+) -> Result<Option<BodyAt>, PageFault>
+    requires key { key ≡ page_key segment Home tid.page }
+    requires heaps { IsTold (P.view pages.old).disk → AreHeaps (P.view pages.old) }
+    requires holds { IsTold (P.view pages.old).disk → IsHeldBy (P.view pages.old).held key
+        (content_at (P.view pages.old).held key tid.slot) found }
+    requires formed { IsInForm (P.view pages.old) key found }
+    ensures found { IfOk result (λ found. IsTold (P.view pages.old).disk
+        → IsLocated (P.view pages.new).held (bodies_of (P.view pages.old).held segment tid) found) }
+    ensures there { IfOk result (λ found. IfSome found (IsInMemory (P.view pages.new))) }
+    ensures did { PagesCall no_page 1 1 (P.view pages.old) (P.view pages.new) result }
+{
+    match found {
         Entry::Empty => Ok(None),
         Entry::Here { place, length } => Ok(Some(BodyAt { key, place, length })),
         Entry::Forward { page, slot } => {
@@ -47,7 +71,7 @@ pub(crate) fn locate<P: Pages>(
     }
 }
 
-/// Where the body stands that an entry of an overflow page has. Where it has none, the page is
+/// Where the body stands that an entry of an overflow page has. If it has none, the page is
 /// damaged.
 fn follow<P: Pages>(pages: &mut P, key: PageKey, slot: u8) -> Result<BodyAt, PageFault>
     requires may { NamesEntry (P.view pages.old) key slot }
@@ -65,7 +89,7 @@ fn follow<P: Pages>(pages: &mut P, key: PageKey, slot: u8) -> Result<BodyAt, Pag
     }
 }
 
-/// The entry of a slot of a page, and an empty one where the page isn't mapped.
+/// The entry of a slot of a page, and an empty one if the page isn't mapped.
 fn look<P: Pages>(pages: &mut P, key: PageKey, slot: u8) -> Result<Entry, PageFault>
     requires { NamesEntry (P.view pages.old) key slot }
     ensures found { IfOk result (λ found. IsTold (P.view pages.old).disk
@@ -80,8 +104,8 @@ fn look<P: Pages>(pages: &mut P, key: PageKey, slot: u8) -> Result<Entry, PageFa
     look_in(pages.loaded(key), key, slot)
 }
 
-/// The entry of a slot, in a page that is to be well-formed, with bodies of tuples alone.
-fn look_in(page: &Page, key: PageKey, slot: u8) -> Result<Entry, PageFault>
+/// The entry of a slot, in a page that is to be well-formed, with only bodies of tuples.
+pub(crate) fn look_in(page: &Page, key: PageKey, slot: u8) -> Result<Entry, PageFault>
     requires { slot < page_entries }
     ensures header { OnOk result (IsHeader key page.now) }
     ensures holds { IfOk result

@@ -1,6 +1,13 @@
 // The tuple store over pages.
 ghost use Rattle.std.proofs.Common.{refl};
-ghost use Rattle.std.specs.Prelude.{◌≡◌};
+ghost use Rattle.std.specs.Prelude.{◌≡◌, ◌+◌, IfOk, IfSome};
+ghost use Rattle.rss_base.specs.DiskRule.{IsTold};
+ghost use Rattle.rss_base.specs.Steps.{PagesCall, no_page};
+ghost use Rattle.rss_base.specs.Tids.{IsAfter};
+ghost use Rattle.rss_tuple.specs.Calls.{IsSegment};
+ghost use Rattle.rss_tuple.specs.Finding.{FindsNextAt};
+ghost use Rattle.rss_tuple.specs.Heaps.{AreHeaps};
+ghost use Rattle.rss_tuple.specs.Located.{IsInMemory};
 ghost use Rattle.rss_tuple.specs.TupleSteps.{tuples_in};
 
 use crate::body_at::BodyAt;
@@ -8,7 +15,7 @@ use crate::choosing::choose;
 use crate::placing::{insert_at, remove, replace};
 use crate::reading::locate;
 use crate::tuples::Tuples;
-use crate::walking::next_live;
+use crate::walking::{next_body, next_live};
 use rss_base::{PAGE_BYTES, Page, PageFault, Pages, Tid};
 
 /// The tuples of any pages.
@@ -44,6 +51,28 @@ impl<P: Pages> Store<P> {
     {
         let Store { pages, page: _ } = self;
         pages
+    }
+
+    /// What `next_live` answers, with where the body of that tuple stands, as `locate` tells it. Asks for
+    /// one page more.
+    pub fn next_body(
+        &mut self,
+        segment: u8,
+        after: Option<Tid>,
+    ) -> Result<Option<(Tid, BodyAt)>, PageFault>
+        requires segment { IsSegment segment }
+        requires heaps { IsTold (P.view self.old.pages).disk → AreHeaps (P.view self.old.pages) }
+        ensures next { IfOk result (λ found. IsTold (P.view self.old.pages).disk
+            → FindsNextAt (tuples_in (P.view self.old.pages)) segment after
+            (P.view self.new.pages).held found) }
+        ensures behind { IfOk result (λ found. IfSome found (λ next. IsAfter after next.0)) }
+        ensures there { IfOk result (λ found.
+            IfSome found (λ next. IsInMemory (P.view self.new.pages) next.1)) }
+        ensures did { PagesCall no_page ((P.view self.old.pages).slots + 1)
+            ((P.view self.old.pages).slots + 1)
+            (P.view self.old.pages) (P.view self.new.pages) result }
+    {
+        next_body(&mut self.pages, segment, after)
     }
 }
 

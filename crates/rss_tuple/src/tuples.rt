@@ -19,21 +19,21 @@ use rss_base::{Body, PageFault, Tid};
 /// The tuples of a store: a finite map from the identifiers of each segment to bodies of 1 to 2,400
 /// bytes, in the pages below.
 ///
-/// Segments are numbered from 1 to 8. Of bodies and pages something is said where the device tells
-/// its contents. There `Damaged` never comes; where it doesn't tell, `Damaged` names the page that
-/// isn't what it should be. After an error of a call that changes tuples, nothing is known of them.
+/// Segments are numbered from 1 to 8. Of bodies and pages something is said if the device tells its
+/// contents. Then `Damaged` never comes; if it doesn't tell, `Damaged` names the page that isn't
+/// what it should be. After an error of a call that changes tuples, nothing is known of them.
 pub trait Tuples {
     /// What there is to see of them.
     ghost view: { Self → TuplesView };
 
     /// The identifier that a new tuple with a body of this length gets: one that no tuple has and
-    /// that isn't barred. None exactly where there is none.
+    /// that isn't barred. None exactly if there is none.
     fn choose(&mut self, segment: u8, length: u16, barred: &[Tid]) -> Result<Option<Tid>, PageFault>
         requires may { MayPut segment length }
         requires heaps { IsTold (view self.old).pages.disk → AreHeaps (view self.old).pages }
         ensures { Chooses segment length barred.now (view self.old) (view self.new) result };
 
-    /// Puts a tuple at an identifier that none has. The home page is taken where it isn't mapped.
+    /// Puts a tuple at an identifier that none has. The home page is taken if it isn't mapped.
     fn insert_at(&mut self, segment: u8, tid: Tid, body: &[u8]) -> Result<(), PageFault>
         requires { MayInsert (view self.old) segment tid (length body.now) }
         ensures { PutsTuple segment tid body.now ((view self.old).pages.slots + 4)
@@ -71,7 +71,7 @@ pub trait Tuples {
         Ok(true)
     }
 
-    /// Puts another body in place of that of a tuple. Takes no page where the body isn't longer.
+    /// Puts another body in place of that of a tuple. Takes no page if the body isn't longer.
     fn replace(&mut self, segment: u8, tid: Tid, body: &[u8]) -> Result<(), PageFault>
         requires { MayReplace (view self.old) segment tid (length body.now) }
         ensures puts { PutsTuple segment tid body.now ((view self.old).pages.slots + 7)
@@ -94,8 +94,8 @@ pub trait Tuples {
         ensures did { TuplesCall (pages_for segment tid) (only_tuple segment tid) 4
             (view self.old) (view self.new) result };
 
-    /// The least identifier behind this one at which a tuple stands, or the least of all where there
-    /// is none to stand behind. On any device the answer stands behind it.
+    /// The least identifier after this one at which a tuple stands, or the least of all if none is
+    /// given. On any device the answer stands after it.
     fn next_live(&mut self, segment: u8, after: Option<Tid>) -> Result<Option<Tid>, PageFault>
         requires segment { IsSegment segment }
         requires heaps { IsTold (view self.old).pages.disk → AreHeaps (view self.old).pages }
@@ -115,9 +115,6 @@ fn fill(into: &mut Body, bytes: &[u8])
     requires { length bytes.now ≤ body_most }
     ensures { into.new ≡ bytes.now }
 {
-    // A new one is zeroed, which costs more than all else here.
-    if !into.as_slice().is_empty() {
-        *into = Body::new();
-    }
+    into.clear();
     into.extend_from_slice(bytes);
 }

@@ -10,6 +10,6 @@ pub returns-in-Err-clause-did : goal.returns-in-Err-clause-did
 returns-in-Err-clause-did g c = record {
   looks = brought c.load.ensures.did.step;
   failed = λ is. c.load.ensures.did.failed (c.in-Err.is ∙ ap Err (c.fault_at.ensures.failed (cc)));
-  flawed = λ place is told sound. c.fault_at.ensures.damaged place (cc) (λ other same. c.load.ensures.did.sound other (c.in-Err.is ∙ ap Err same) told);
+  flawed = λ place is told. c.fault_at.ensures.damaged place (cc) (λ other same. c.load.ensures.did.sound other (c.in-Err.is ∙ ap Err same) told);
   elsewhere = λ is. c.fault_at.ensures.elsewhere (cc);
 }

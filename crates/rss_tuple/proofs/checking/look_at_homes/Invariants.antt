@@ -14,7 +14,7 @@ invariant-loop-number g l = record {
   low : l.from ≤ (g.P.Pages.view l.fn.pages).slots;
   size : length l.led ≡ (g.P.Pages.view l.fn.pages).slots;
   looks : LooksStep (pages_in l.segment Home) (129 * l.from) (g.P.Pages.view l.fn.pages) (g.P.Pages.view l.pages);
-  formed : IsTold (g.P.Pages.view l.fn.pages).disk → (k : ℕ) → k < l.from → IsNotedAt (g.P.Pages.view l.fn.pages).held (g.P.Pages.view l.pages) (page_key l.segment Home k);
+  noted : IsTold (g.P.Pages.view l.fn.pages).disk → (k : ℕ) → k < l.from → IsNotedAt (g.P.Pages.view l.fn.pages).held (g.P.Pages.view l.pages) (page_key l.segment Home k);
   seen : IsTold (g.P.Pages.view l.fn.pages).disk → AreSeen (homes (g.P.Pages.view l.fn.pages).held l.segment) (overflows (g.P.Pages.view l.fn.pages).held l.segment) (g.V.Visitor.is_good l.fn.visitor) l.led (in_front l.from 0);
   shown : IsTold (g.P.Pages.view l.fn.pages).disk → Sees g.V.Visitor.is_good g.V.Visitor.saw l.fn.visitor l.visitor (tuples_of (g.P.Pages.view l.fn.pages).held l.segment l.from);
 }

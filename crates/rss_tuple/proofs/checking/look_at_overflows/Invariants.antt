@@ -12,7 +12,7 @@ abbrev pub invariant-loop-number : goal.invariant-loop-number
 invariant-loop-number g l = record {
   low : l.from ≤ (g.P.Pages.view l.fn.pages).slots;
   looks : LooksStep (pages_in l.segment Overflow) (1 * l.from) (g.P.Pages.view l.fn.pages) (g.P.Pages.view l.pages);
-  formed : IsTold (g.P.Pages.view l.fn.pages).disk → (k : ℕ) → k < l.from → IsNotedAt (g.P.Pages.view l.fn.pages).held (g.P.Pages.view l.pages) (page_key l.segment Overflow k);
+  noted : IsTold (g.P.Pages.view l.fn.pages).disk → (k : ℕ) → k < l.from → IsNotedAt (g.P.Pages.view l.fn.pages).held (g.P.Pages.view l.pages) (page_key l.segment Overflow k);
   led : IsTold (g.P.Pages.view l.fn.pages).disk → (k : ℕ) → k < l.from → AreMarked (contents (g.P.Pages.view l.fn.pages).held (page_key l.segment Overflow k)) (get_or l.led k 0);
 }
 

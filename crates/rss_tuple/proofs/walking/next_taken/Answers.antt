@@ -6,8 +6,8 @@ use Rattle.rss_page.specs.Content.{Content}
 use Rattle.rss_tuple.specs.Finding.{IsFirstTaken, NoneTaken}
 use Rattle.rss_tuple.proofs.Seen.{formed_after}
 use Rattle.rss_tuple.proofs.Walks.{walked_none, none_next, found_next, walked_more, walk_call, walk_fails, contents_before, low_home}
-use Rattle.rss_tuple.proofs.walking.next_live.Goals as goal
-use Rattle.rss_tuple.proofs.walking.next_live.Goals.{In-Some}
+use Rattle.rss_tuple.proofs.walking.next_taken.Goals as goal
+use Rattle.rss_tuple.proofs.walking.next_taken.Goals.{In-Some}
 
 pub loop-number-init : goal.loop-number-init
 loop-number-init g c = walked_none _ c.args.segment c.args.after c.start_of-from.result c.start_of-from.ensures.low c.start_of-from.ensures.from

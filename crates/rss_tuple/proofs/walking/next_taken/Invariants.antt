@@ -1,6 +1,6 @@
 use Rattle.std.proofs.Common.{◌-◌}
 use Rattle.rss_tuple.proofs.Walks.{Walked}
-use Rattle.rss_tuple.proofs.walking.next_live.Given as goal
+use Rattle.rss_tuple.proofs.walking.next_taken.Given as goal
 
 abbrev pub invariant-loop-number : goal.invariant-loop-number
 invariant-loop-number g l = Walked (g.P.Pages.view l.fn.pages) (g.P.Pages.view l.pages) l.segment l.fn.after l.from
