@@ -214,7 +214,7 @@ may_become_as {slots_too = slots_too} {listing = listing} {fields = fields} {tol
 pub few_prefix : (change : TupleChange) {slots : ℕ} {listing : Listing} {fields : List FieldDef} → MayBecome slots listing fields (told_by change) → prefix_size listing.links change.number ≤ 288
 few_prefix change {listing = listing} may = let same = ap (prefix_size listing.links) (number_by change) in omega (arith, may.short, same)
 
-pub short_prefix : (change : TupleChange) {slots : ℕ} {listing : Listing} {fields : List FieldDef} → MayBecome slots listing fields (told_by change) → 1 + prefix_size listing.links change.number ≤ 2400
+pub short_prefix : (change : TupleChange) {slots : ℕ} {listing : Listing} {fields : List FieldDef} → MayBecome slots listing fields (told_by change) → 1 + prefix_size listing.links change.number ≤ 289
 short_prefix change {listing = listing} may = let same = ap (prefix_size listing.links) (number_by change) in omega (arith, may.short, same)
 
 -- values that are spelled are not too long for what is left of a page

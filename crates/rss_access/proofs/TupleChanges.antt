@@ -21,7 +21,6 @@ use Rattle.rss_page.specs.Slotted.{body_bytes as bytes_in}
 use Rattle.rss_page.specs.Surveyed.{held_at}
 use Rattle.rss_page.proofs.Contents.{length-entries}
 use Rattle.rss_tuple.specs.Directory.{Entries, Bodies, contents_in, contents, homes, overflows, body_by, bodies_of, is_same_tid, with_body, tid_at}
-use Rattle.rss_tuple.specs.Finding.{IsFetched}
 use Rattle.rss_tuple.specs.TupleSteps.{TuplesCall, tuples_in, only_tuple, pages_for}
 use Rattle.rss_tuple.specs.Heaps.{AreHeaps}
 use Rattle.rss_tuple.specs.Placing.{IsFree, TakesOnly, TakesOne, MayTake, home, overflow}

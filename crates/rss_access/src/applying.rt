@@ -11,6 +11,7 @@ ghost use Rattle.rss_base.specs.declared.relation.RelationEntry.{RelationEntry a
 ghost use Rattle.rss_tuple.specs.Calls.{IsSegment};
 ghost use Rattle.rss_tuple.specs.Checked.{pages_of};
 ghost use Rattle.rss_tuple.specs.Heaps.{AreHeaps, body_most};
+ghost use Rattle.rss_members.specs.Members.{front_most};
 ghost use Rattle.rss_entries.specs.Rooms.{images_cost};
 ghost use Rattle.rss_model.specs.Fits.{IsIdentifier};
 ghost use Rattle.rss_access.specs.Told.{AreValuesOf, reversed, values_after};
@@ -29,18 +30,19 @@ use crate::rooms::has_room;
 use crate::tuples::{delete, put_at, update};
 use rss_base::{Body, Change, Kind, PageFault, Pages, Place};
 use rss_catalog::Catalog;
+use rss_members::Front;
 use rss_tuple::{Store, Tuples};
 
-/// Applies a change. Of a tuple: what it tells as old becomes what it tells as new, and the count of
-/// the relation goes with it; its entries in the images of its relation move along. Of a chain: the
-/// tuple comes into it, or goes out of it.
+/// Applies a change. Of a tuple: what it tells as old becomes what it tells as new, and the count
+/// of the relation goes with it; its entries in the images of its relation move along. Of a chain:
+/// the tuple comes into it, or goes out of it.
 ///
-/// Where the tuple isn't as the change tells it, or can't become what it tells, or where there is no
-/// room, the fault is `Damaged` at the tuple; at the count of the relation, where that can't go with
-/// it or no such relation is defined; where the tuple can't come into the chain, or doesn't stand in
-/// it where the change tells, at the tuple or the link; and at the link, where there is no room for a
-/// change of a chain. Nothing is changed then. It takes two pages at most, and what its images need; a
-/// change of a chain takes none over a device that tells its contents.
+/// The fault is `Damaged` at the tuple if it isn't as the change tells it, or can't become what it
+/// tells, or if there is no room. It is at the count of the relation if that can't go with it, or
+/// no such relation is defined. It is at the tuple or the link if the tuple can't come into the
+/// chain, or doesn't stand in it where the change tells. It is at the link if there is no room for
+/// a change of a chain. Nothing is changed then. It takes two pages at most, and what its images
+/// need; a change of a chain takes none over a device that tells its contents.
 pub fn apply<P: Pages>(
     tuples: &mut Store<P>,
     catalog: &mut Catalog,
@@ -132,16 +134,16 @@ fn alter<P: Pages>(
     Ok(())
 }
 
-/// What stands before the values in the body of a segment's tuple. None where the tuple isn't as the
+/// What stands before the values in the body of a segment's tuple. None if the tuple isn't as the
 /// change finds it.
 fn front_of<P: Pages>(
     tuples: &mut Store<P>,
     catalog: &Catalog,
     segment: u8,
     change: TupleChange<'_>,
-) -> Result<Option<Body>, PageFault>
+) -> Result<Option<Front>, PageFault>
     requires heaps { IsTold (P.view tuples.old.pages).disk → AreHeaps (P.view tuples.old.pages) }
-    requires short { 1 + prefix_size catalog.now.listing.links change.number ≤ body_most }
+    requires short { 1 + prefix_size catalog.now.listing.links change.number ≤ front_most }
     ensures front { IfOk result
         (λ found. IfSome found (IsFront catalog.now.listing (told_by change.entry))) }
     ensures some { IfOk result (λ found. IfSome found (λ front. IsTold (P.view tuples.old.pages).disk
@@ -160,12 +162,12 @@ fn front_of<P: Pages>(
     Ok(change.front_in(catalog, Some(tuples.body(at))))
 }
 
-/// Puts the tuple of a segment as the change leaves it, where this stands before the values.
+/// Puts the tuple of a segment as the change leaves it, with `front` before the values.
 fn put<P: Pages>(
     tuples: &mut Store<P>,
     segment: u8,
     change: TupleChange<'_>,
-    front: Body,
+    front: Front,
 ) -> Result<(), PageFault>
     requires may { CanPut (P.view tuples.old.pages) }
     requires segment { IsSegment segment }
@@ -183,28 +185,29 @@ fn put<P: Pages>(
 {
     match change.edit {
         Edit::Insert(values) => {
-            let body = with_values(front, values);
+            let body = with_values(front.as_slice(), values);
             put_at(tuples, segment, change.tid, body.as_slice())
         }
         Edit::Delete(_) => delete(tuples, segment, change.tid),
         Edit::Update { from: _, to } => {
-            let body = with_values(front, to);
+            let body = with_values(front.as_slice(), to);
             update(tuples, segment, change.tid, body.as_slice())
         }
     }
 }
 
-/// A body with these bytes of values behind what stands before them.
-fn with_values(front: Body, values: &[u8]) -> Body
-    requires { length front + length values.now ≤ body_most }
-    ensures { result ≡ front ++ values.now }
+/// A body with these bytes of values after what stands before them.
+fn with_values(front: &[u8], values: &[u8]) -> Body
+    requires { length (front.now ++ values.now) ≤ body_most }
+    ensures { result ≡ front.now ++ values.now }
 {
-    let mut body = front;
+    let mut body = Body::new();
+    body.extend_from_slice(front);
     body.extend_from_slice(values);
     body
 }
 
-/// Moves the entries of a tuple, where its relation has images.
+/// Moves the entries of a tuple, if its relation has images.
 fn move_entries<P: Pages>(
     pages: &mut P,
     catalog: &mut Catalog,
@@ -232,7 +235,7 @@ fn move_entries<P: Pages>(
     Ok(())
 }
 
-/// Sets the count of a relation, where it has another one.
+/// Sets the count of a relation, if it has another one.
 fn recount(catalog: &mut Catalog, number: u8, count: u32)
     requires { is_some (relation_at catalog.old.listing number) ≡ true }
     ensures lists { (relation : Entry) → relation_at catalog.old.listing number ≡ Some relation

@@ -17,8 +17,8 @@ use rss_catalog::Catalog;
 use rss_members::{Membership, connect, disconnect};
 use rss_tuple::Store;
 
-/// Puts a tuple into a chain: right behind `left`, or first. Where it can't come there, or where there
-/// is no room, the fault is `Damaged`, and nothing is changed. No page is taken over a device that
+/// Puts a tuple into a chain: right after `left`, or first. If it can't come there, or if there is
+/// no room, the fault is `Damaged`, and nothing is changed. No page is taken over a device that
 /// tells its contents.
 pub(crate) fn put_in<P: Pages>(
     tuples: &mut Store<P>,
@@ -37,9 +37,9 @@ pub(crate) fn put_in<P: Pages>(
     before.settle(&tuples.pages, catalog, membership.link)
 }
 
-/// Takes a tuple out of the chain where it stands, right behind `left` or first. Where it doesn't
-/// stand there, or where there is no room, the fault is `Damaged`, and nothing is changed. No page is
-/// taken over a device that tells its contents.
+/// Takes a tuple out of the chain where it stands, right after `left` or first. If it doesn't stand
+/// there, or if there is no room, the fault is `Damaged`, and nothing is changed. No page is taken
+/// over a device that tells its contents.
 pub(crate) fn take_out<P: Pages>(
     tuples: &mut Store<P>,
     catalog: &mut Catalog,

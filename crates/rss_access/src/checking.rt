@@ -26,8 +26,8 @@ use rss_image::Image;
 use rss_tuple::{Store, Tuples};
 
 /// Checks an image: its pages are a tree, which has the entry of each tuple of its relation and no
-/// other; and where it is unique, no key twice. Answers how many pages it has; where it isn't so,
-/// the fault is `Damaged` at the image. Nothing is changed.
+/// other; and if it is unique, no key twice. Answers how many pages it has; if it isn't so, the
+/// fault is `Damaged` at the image. Nothing is changed.
 pub fn check_image<P: Pages>(
     tuples: &mut Store<P>,
     catalog: &Catalog,
@@ -83,7 +83,7 @@ fn is_doubled(is_unique: bool, repeats: Option<Tid>) -> bool
     is_unique && repeats.is_some()
 }
 
-/// Whether an image has the entry of each tuple of the relation of this number.
+/// Whether an image has the entry of each tuple of the relation `number`.
 fn has_entries<P: Pages>(
     tuples: &mut Store<P>,
     catalog: &Catalog,
@@ -116,8 +116,8 @@ fn has_entries<P: Pages>(
     Ok(true)
 }
 
-/// Whether an image has the entry of the tuple with this identifier, where that is one of the
-/// relation of this number.
+/// Whether an image has the entry of the tuple with this identifier, if that is one of the relation
+/// `number`.
 fn has_entry<P: Pages>(
     tuples: &mut Store<P>,
     catalog: &Catalog,

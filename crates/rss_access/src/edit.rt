@@ -1,22 +1,18 @@
 // A change of a tuple or of a chain, whose bytes are lent.
 ghost use Rattle.std.specs.Prelude.{◌≡◌, ◌≤◌, ◌+◌, ◌∷◌, ◌++◌, ℕ, List, true, length, None, IfSome, option_copied};
 ghost use Rattle.rss_base.specs.Prefixes.{prefix_size};
-ghost use Rattle.rss_tuple.specs.Heaps.{body_most};
-ghost use Rattle.rss_members.specs.Members.{blank_prefix};
+ghost use Rattle.rss_members.specs.Members.{blank_prefix, front_most};
 ghost use Rattle.rss_access.specs.Told.{ReverseMeans, MayBecome, MayCount, values_before, values_after, reversed, count_after};
 ghost use Rattle.rss_access.specs.Edits.{told_of, told_by, values_lent};
 ghost use Rattle.rss_access.specs.Alterations.{told_as, BeginsWith, IsFront, IsFound, IsNotFound};
 
-use rss_base::{Body, Change, FieldDef, PAGE_ENTRIES, Tid};
+use rss_base::{Change, FieldDef, PAGE_ENTRIES, Tid};
 use rss_catalog::Catalog;
-use rss_members::{Membership, prefix_len, push_blank_prefix};
+use rss_members::{FRONT_BYTES, Front, Membership, prefix_len, push_blank_prefix};
 use rss_value::spells;
 
 /// How many tuples a relation has at most.
 pub const TUPLES_MOST: u32 = 1 << 20;
-
-/// No prefix of a tuple has more bytes, by how many links its relation may be in.
-const PREFIX_MOST: usize = 16 * 18;
 
 /// What becomes of a tuple, with the bytes of its values.
 #[derive(Clone, Copy)]
@@ -26,7 +22,7 @@ pub(crate) enum Edit<'a> {
     Update { from: &'a [u8], to: &'a [u8] },
 }
 
-/// A change of a tuple of the relation of this number.
+/// A change of a tuple of a relation.
 #[derive(Clone, Copy)]
 pub(crate) struct TupleChange<'a> {
     pub(crate) number: u8,
@@ -98,7 +94,7 @@ impl<'a> TupleChange<'a> {
     {
         if self.tid.page >= slots
             || usize::from(self.tid.slot) >= PAGE_ENTRIES
-            || prefix_len(catalog, self.number) > PREFIX_MOST
+            || prefix_len(catalog, self.number) >= FRONT_BYTES
         {
             return false;
         }
@@ -108,10 +104,10 @@ impl<'a> TupleChange<'a> {
         }
     }
 
-    /// What stands before the values in the tuple's body, if there is a tuple. None where the tuple
+    /// What stands before the values in the tuple's body, if there is a tuple. None if the tuple
     /// isn't as the change finds it.
-    pub(crate) fn front_in(self, catalog: &Catalog, body: Option<&[u8]>) -> Option<Body>
-        requires { 1 + prefix_size catalog.now.listing.links self.number ≤ body_most }
+    pub(crate) fn front_in(self, catalog: &Catalog, body: Option<&[u8]>) -> Option<Front>
+        requires { 1 + prefix_size catalog.now.listing.links self.number ≤ front_most }
         ensures front { IfSome result (IsFront catalog.now.listing (told_by self.entry)) }
         ensures some { IfSome result (IsFound (told_by self.entry) (option_copied body.entry)) }
         ensures none { result ≡ None
@@ -127,9 +123,9 @@ impl<'a> TupleChange<'a> {
         }
     }
 
-    /// The same where there is no tuple.
-    fn front_of_new(self, catalog: &Catalog) -> Option<Body>
-        requires { 1 + prefix_size catalog.now.listing.links self.number ≤ body_most }
+    /// The same if there is no tuple.
+    fn front_of_new(self, catalog: &Catalog) -> Option<Front>
+        requires { 1 + prefix_size catalog.now.listing.links self.number ≤ front_most }
         ensures front { IfSome result (IsFront catalog.now.listing (told_by self.entry)) }
         ensures some { IfSome result (IsFound (told_by self.entry) None) }
         ensures none { result ≡ None
@@ -141,7 +137,7 @@ impl<'a> TupleChange<'a> {
         }
     }
 
-    /// How many tuples the relation has afterwards, where it has so many before.
+    /// How many tuples the relation has afterwards, if it has so many before.
     pub(crate) fn count(self, live: u32) -> Option<u32>
         ensures some { IfSome result (λ count. count ≡ count_after (told_by self.entry) live) }
         ensures may { IfSome result (λ _. MayCount (told_by self.entry) live) }
@@ -156,21 +152,21 @@ impl<'a> TupleChange<'a> {
     }
 }
 
-/// What stands before the values of a tuple of the relation of this number that is in no chain and has
+/// What stands before the values of a tuple of the relation `number` that is in no chain and has
 /// none.
-fn blank_front(catalog: &Catalog, number: u8) -> Body
-    requires { 1 + prefix_size catalog.now.listing.links number ≤ body_most }
+fn blank_front(catalog: &Catalog, number: u8) -> Front
+    requires { 1 + prefix_size catalog.now.listing.links number ≤ front_most }
     ensures { result ≡ number ∷ blank_prefix catalog.now.listing number }
 {
-    let mut front = Body::new();
+    let mut front = Front::new();
     front.push(number);
     push_blank_prefix(catalog, number, &mut front);
     front
 }
 
-/// What stands before these values in a body, where it is that of such a tuple.
-fn gone_front(catalog: &Catalog, number: u8, body: &[u8], values: &[u8]) -> Option<Body>
-    requires { 1 + prefix_size catalog.now.listing.links number ≤ body_most }
+/// What stands before these values in a body, if it is that of such a tuple.
+fn gone_front(catalog: &Catalog, number: u8, body: &[u8], values: &[u8]) -> Option<Front>
+    requires { 1 + prefix_size catalog.now.listing.links number ≤ front_most }
     ensures some { IfSome result (λ front. (front ≡ number ∷ blank_prefix catalog.now.listing number)
         × (body.now ≡ front ++ values.now)) }
     ensures none { result ≡ None
@@ -183,9 +179,9 @@ fn gone_front(catalog: &Catalog, number: u8, body: &[u8], values: &[u8]) -> Opti
     }
 }
 
-/// What stands before these values in the body of a tuple of the relation of this number.
-fn kept_front(catalog: &Catalog, number: u8, body: &[u8], values: &[u8]) -> Option<Body>
-    requires { 1 + prefix_size catalog.now.listing.links number ≤ body_most }
+/// What stands before these values in the body of a tuple of the relation `number`.
+fn kept_front(catalog: &Catalog, number: u8, body: &[u8], values: &[u8]) -> Option<Front>
+    requires { 1 + prefix_size catalog.now.listing.links number ≤ front_most }
     ensures some { IfSome result
         (λ front. BeginsWith catalog.now.listing number front × (body.now ≡ front ++ values.now)) }
     ensures none { result ≡ None → (front : List ℕ) → BeginsWith catalog.now.listing number front
@@ -193,7 +189,7 @@ fn kept_front(catalog: &Catalog, number: u8, body: &[u8], values: &[u8]) -> Opti
 {
     match body.strip_suffix(values) {
         Some(kept) if begins_with(catalog, number, kept) => {
-            let mut front = Body::new();
+            let mut front = Front::new();
             front.extend_from_slice(kept);
             Some(front)
         }

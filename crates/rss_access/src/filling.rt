@@ -27,9 +27,9 @@ use rss_value::compare_keys;
 use std::alloc::Global;
 use std::cmp::Ordering;
 
-/// The entries of all tuples of the relation of this number in an image with these of its fields,
-/// in the image's order. Where a tuple's bytes aren't those of its fields, or there are more tuples
-/// than the relation counts or may have, the fault is `Damaged`. Nothing is changed.
+/// The entries of all tuples of the relation `number` in an image with these of its fields, in the
+/// image's order. If a tuple's bytes aren't those of its fields, or there are more tuples than the
+/// relation counts or may have, the fault is `Damaged`. Nothing is changed.
 pub fn entries_of<P: Pages>(
     alloc: Global,
     tuples: &mut Store<P>,
@@ -85,7 +85,8 @@ pub fn entries_of<P: Pages>(
     Ok(entries)
 }
 
-/// The key of the tuple with this identifier, where it is one of this relation, which has this number.
+/// The key of the tuple with this identifier, if it is one of this relation, whose number is
+/// `number`.
 fn key_at<P: Pages>(
     tuples: &mut Store<P>,
     catalog: &Catalog,
@@ -116,7 +117,7 @@ fn key_at<P: Pages>(
 }
 
 /// The key of the tuple with this identifier, whose body this is. It takes no memory, and its one
-/// error is damage at the tuple, where the body is that of no tuple of the relation, or no page has
+/// error is damage at the tuple, if the body is that of no tuple of the relation, or no page has
 /// such an entry.
 fn key_of(
     catalog: &Catalog,

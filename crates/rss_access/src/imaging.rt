@@ -23,7 +23,7 @@ use rss_entries::{KeyFields, find_owner as owner_in, next_pair};
 use rss_image::Image;
 use rss_tuple::Store;
 
-/// The image of this number, as the catalog lists it.
+/// The image `number`, as the catalog lists it.
 pub(crate) fn image_of(catalog: &Catalog, number: u8) -> Image
     requires { is_some (image_at catalog.now.listing number) ≡ true }
     ensures is { (image : AnImage) (relation : Entry)
@@ -59,8 +59,8 @@ pub(crate) fn key_fields(catalog: &Catalog, number: u8) -> KeyFields<'_>
     }
 }
 
-/// The tuple that has, in the unique image of this number, the key of a tuple with the values of
-/// these bytes, if there is one, other than `own`, the tuple that the key is for.
+/// The tuple other than `own` that has, in the unique image `number`, the key of a tuple with the
+/// values of these bytes, if there is one. `own` is the tuple that the key is for.
 pub fn find_owner<P: Pages>(
     tuples: &mut Store<P>,
     catalog: &Catalog,
@@ -86,8 +86,8 @@ pub fn find_owner<P: Pages>(
     owner_in(&mut tuples.pages, &image, key, values, own)
 }
 
-/// The pair of the image of this number behind the one that was given last, if there is one; before
-/// the first, the first pair whose key is at or above `start`.
+/// The pair of the image `number` after the one that was given last, if there is one; before the
+/// first, the first pair whose key is at or above `start`.
 pub fn next_entry<P: Pages>(
     tuples: &mut Store<P>,
     catalog: &Catalog,

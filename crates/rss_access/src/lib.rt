@@ -14,7 +14,7 @@ mod trees;
 mod tuples;
 
 pub use applying::{apply, undo};
-pub use bodies::{made_of, spelled_in};
+pub use bodies::{made_into, made_of, spelled_in};
 pub use checking::check_image;
 pub use edit::TUPLES_MOST;
 pub use filling::{entries_of, repeated};

@@ -19,8 +19,8 @@ use rss_base::{Kind, PageFault, Pages};
 use rss_catalog::Catalog;
 use rss_entries::move_entry;
 
-/// Moves the entries of a tuple in the images of its relation: those of its old values go, and those
-/// of its new values come. Where a key stays, nothing is done.
+/// Moves the entries of a tuple in the images of its relation: those of its old values go, and
+/// those of its new values come. If a key stays, nothing is done.
 pub(crate) fn move_images<P: Pages>(
     pages: &mut P,
     catalog: &mut Catalog,
@@ -50,7 +50,7 @@ pub(crate) fn move_images<P: Pages>(
     Ok(())
 }
 
-/// Moves the entry of a tuple in the image of this number, where it is one of the tuple's relation.
+/// Moves the entry of a tuple in the image `number`, if it is one of the tuple's relation.
 fn move_at<P: Pages>(
     pages: &mut P,
     catalog: &mut Catalog,
@@ -83,7 +83,7 @@ fn move_at<P: Pages>(
     }
 }
 
-/// Whether the image of this number is one of a relation.
+/// Whether the image `number` is one of a relation.
 fn is_image_of(catalog: &Catalog, number: u8, relation: u8) -> bool
     ensures { IsTrue result ↔ IsImageOf catalog.now.listing number relation }
 {
@@ -131,7 +131,7 @@ fn move_image<P: Pages>(
     Ok(())
 }
 
-/// Sets where the tree of an image begins, where that has changed.
+/// Sets where the tree of an image begins, if that has changed.
 fn reroot(catalog: &mut Catalog, number: u8, root: u32, levels: u8)
     requires few { number ≤ images_most }
     requires there { is_some (image_at catalog.old.listing number) ≡ true }

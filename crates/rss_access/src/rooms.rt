@@ -16,8 +16,8 @@ use rss_value::key_width;
 /// How many home and overflow pages a change may take.
 pub(crate) const PAGES_TAKEN: u32 = 2;
 
-/// Whether there is room for two pages more, and for a pair more in each image of the relation of
-/// this number.
+/// Whether there is room for two pages more, and for a pair more in each image of the relation
+/// `number`.
 pub(crate) fn has_room<P: Pages>(pages: &P, catalog: &Catalog, number: u8) -> bool
     ensures spare { result ≡ true → 2 ≤ (P.view pages.now).spare }
     ensures room { result ≡ true → HasRoom (both (P.view pages.now) catalog.now) number }
@@ -30,7 +30,7 @@ pub(crate) fn has_room<P: Pages>(pages: &P, catalog: &Catalog, number: u8) -> bo
     spare >= PAGES_TAKEN && u64::from(PAGES_TAKEN) + images_room(catalog, number) <= places
 }
 
-/// How many pages all images may have, with a pair more in those of the relation of this number.
+/// How many pages all images may have, with a pair more in those of the relation `number`.
 fn images_room(catalog: &Catalog, number: u8) -> u64
     ensures is { result ≡ images_room catalog.now.listing number }
     ensures small { result ≤ images_most * (2 ^ 32 + 2) }

@@ -21,7 +21,7 @@ use rss_catalog::Catalog;
 use rss_entries::build;
 
 /// Builds the tree of an image that was just listed, of these entries, which rise, and lists where
-/// it begins. Where this fails, some of its pages may still be mapped.
+/// it begins. If this fails, some of its pages may still be mapped.
 pub fn fill_image<P: Pages>(
     pages: &mut P,
     catalog: &mut Catalog,
@@ -50,7 +50,7 @@ pub fn fill_image<P: Pages>(
     Ok(())
 }
 
-/// Gives all pages of an image back, and takes its definition away. Where this fails, some of the
+/// Gives all pages of an image back, and takes its definition away. If this fails, some of the
 /// pages may still be mapped.
 pub fn take_image<P: Pages>(
     pages: &mut P,

@@ -1,5 +1,6 @@
 // Tuples in their pages.
-ghost use Rattle.std.specs.Prelude.{◌≡◌, ℕ, ◌+◌, ◌*◌, ◌≤◌, length, None, Some, IsSome, IfOk, IfSome, OnOk};
+ghost use Rattle.std.specs.Prelude.{◌≡◌, ◌↔◌, ℕ, ◌+◌, ◌*◌, length, None, Some, IsSome};
+ghost use Rattle.std.specs.Prelude.{IsTrue, IfOk, IfSome, OnOk, slice_get};
 ghost use Rattle.rss_base.specs.DiskRule.{IsTold};
 ghost use Rattle.rss_base.specs.Steps.{PagesCall, no_page};
 ghost use Rattle.rss_tuple.specs.Calls.{IsSegment, MayPut, MayInsert};
@@ -29,8 +30,8 @@ pub(crate) fn put_at<P: Pages>(
     tuples.insert_at(segment, tid, body)
 }
 
-/// Where the body of the tuple of a segment with this identifier stands, where that is one of the
-/// relation of this number.
+/// Where the body of the tuple of a segment with this identifier stands, if that is one of the
+/// relation `number`.
 pub fn find<P: Pages>(
     tuples: &mut Store<P>,
     segment: u8,
@@ -48,15 +49,22 @@ pub fn find<P: Pages>(
     let Some(at) = tuples.locate(segment, tid)? else {
         return Ok(None);
     };
-    if tuples.body(at).first() == Some(&number) {
+    if is_of(tuples.body(at), number) {
         Ok(Some(at))
     } else {
         Ok(None)
     }
 }
 
-/// The least identifier behind this one, or the least of all, that a tuple of the relation of this
-/// number has in a segment, and where the tuple's body stands.
+/// Whether a body is that of a tuple of the relation `number`.
+fn is_of(body: &[u8], number: u8) -> bool
+    ensures { IsTrue result ↔ (slice_get body.now 0 ≡ Some number) }
+{
+    body.first() == Some(&number)
+}
+
+/// The least identifier after this one, or the least of all, that a tuple of the relation `number`
+/// has in a segment, and the place of the tuple's body.
 pub fn find_next<P: Pages>(
     tuples: &mut Store<P>,
     segment: u8,
@@ -75,8 +83,8 @@ pub fn find_next<P: Pages>(
         (P.view tuples.old.pages) (P.view tuples.new.pages) result }
 {
     let mut last = after;
-    while let Some(tid) = tuples.next_live(segment, last)? {
-        if let Some(at) = find(tuples, segment, number, tid)? {
+    while let Some((tid, at)) = tuples.next_body(segment, last)? {
+        if is_of(tuples.body(at), number) {
             return Ok(Some((tid, at)));
         }
         last = Some(tid);

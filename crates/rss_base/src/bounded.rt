@@ -39,7 +39,7 @@ impl<const N: usize> BoundedBytes<N> {
         self.len += 1;
     }
 
-    /// Puts these bytes behind those that are there.
+    /// Puts these bytes after those that are there.
     pub fn extend_from_slice(&mut self, bytes: &[u8])
         requires { length self.old + length bytes.now ≤ N }
         ensures { self.new ≡ self.old ++ bytes.now }
@@ -48,6 +48,13 @@ impl<const N: usize> BoundedBytes<N> {
         let all = &mut self.bytes[..];
         all[self.len..end].copy_from_slice(bytes);
         self.len = end;
+    }
+
+    /// Takes all bytes out. None of them is zeroed.
+    pub fn clear(&mut self)
+        ensures { self.new ≡ [] }
+    {
+        self.len = 0;
     }
 
     pub fn as_slice(&self) -> &[u8]

@@ -6,7 +6,7 @@ use crate::{Fields, Item, Name, NameList, Spot, Tid, Tuple};
 pub enum Call {
     Begin(u32),
     Save(u32),
-    /// Back to this save point, where 0 is the begin.
+    /// Back to this save point; 0 is the begin.
     Restore(u32, u32),
     End(u32),
     Abort(u32),
@@ -14,12 +14,12 @@ pub enum Call {
     Fetch(u32, Name, Tid),
     Update(u32, Name, Tid, Tuple),
     Delete(u32, Name, Tid),
-    /// A tuple comes into a chain of this link, the one below a parent where the link has parents.
+    /// A tuple comes into a chain of this link, the one below a parent if the link has parents.
     Connect(u32, Name, Tid, Option<Tid>, Spot),
     Disconnect(u32, Name, Tid),
     Parent(u32, Name, Tid),
     OpenRelation(u32, Name),
-    /// From the least key on that is not below this one, where there is one.
+    /// From the least key on that is not below this one, if there is one.
     OpenImage(u32, Name, Option<Tuple>),
     OpenLink(u32, Name, Option<Tid>),
     Next(u32, u32),

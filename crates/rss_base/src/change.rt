@@ -2,7 +2,7 @@
 use crate::{Body, Tid};
 
 /// What a transaction did to one tuple or to one place of a chain, with what stood there before.
-/// Relations and links are named by their numbers in the catalog, and values are the bytes behind a
+/// Relations and links are named by their numbers in the catalog, and values are the bytes after a
 /// body's prefix.
 #[derive(Drop)]
 pub enum Change {
@@ -22,7 +22,7 @@ pub enum Change {
         from: Body,
         to: Body,
     },
-    /// The parent is none in a unary link, and the left neighbour where the child is first.
+    /// The parent is none in a unary link, and the left neighbour if the child is first.
     Connect {
         link: u8,
         parent: Option<Tid>,

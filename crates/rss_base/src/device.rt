@@ -11,7 +11,7 @@ use crate::{Failed, Page};
 /// How many pages a run has at most.
 pub const RUN_PAGES: usize = 16;
 
-/// Pages that are read one at a time, and written one at a time or one behind the other.
+/// Pages that are read one at a time, and written one at a time or as a run of neighbours.
 ///
 /// Between two syncs a page that was written, also by a write that failed, may hold any bytes after
 /// a stop, and every other page stays. After a sync that succeeds a stop leaves what a read gives.
@@ -50,8 +50,8 @@ pub trait Device {
         ensures counts { (view self.new).writes ≡ counted (view self.old).writes }
         ensures did { WritesPages (IsAt at) 1 (view self.old) (view self.new) result };
 
-    /// Writes a run of pages, one behind the other, from this place on. They are sure to outlast a
-    /// stop only after the next sync.
+    /// Writes a run of neighbouring pages from this place on. They are sure to outlast a stop only
+    /// after the next sync.
     fn write_run(&mut self, at: u64, from: &[Page]) -> Result<(), Failed>
         requires few { length from.now ≤ run_pages }
         requires within { at + length from.now ≤ (view self.old).size }

@@ -11,7 +11,7 @@ use std::marker::Model;
 pub struct FieldDef {
     pub name: Name,
     pub kind: FieldKind,
-    /// It was added to a relation that was there, behind the fields that it had.
+    /// It was added to a relation that was there, after the fields that it had.
     pub added: bool,
 }
 

@@ -1,7 +1,7 @@
 // An image as the catalog has it.
 use crate::{MOST_FIELDS, Name};
 
-/// An image by its definition, and where its tree begins.
+/// An image by its definition, and the page at which its tree begins.
 #[derive(Clone, Copy, Debug, PartialEq, Eq)]
 pub struct ImageEntry {
     pub name: Name,
@@ -10,7 +10,7 @@ pub struct ImageEntry {
     pub is_unique: bool,
     /// How many fields a key has.
     pub count: u8,
-    /// Their numbers in the relation, counted from 1, and zeros behind them.
+    /// Their numbers in the relation, counted from 1, and zeros after them.
     pub fields: [u8; MOST_FIELDS],
     /// How many levels of nodes there are.
     pub levels: u8,

@@ -1,7 +1,7 @@
 // A link as the catalog has it.
 use crate::{Name, Tid};
 
-/// A link by its definition, and the ends of its chain where it has only one.
+/// A link by its definition, and the ends of its chain if it has only one.
 #[derive(Clone, Copy, Debug, PartialEq, Eq)]
 pub struct LinkEntry {
     pub name: Name,
@@ -12,7 +12,7 @@ pub struct LinkEntry {
     /// It has a block in a tuple's body only while the block says something. The block of a link
     /// that isn't late stands in each body of its relations.
     pub late: bool,
-    /// The ends of the one chain, where there is no parent.
+    /// The ends of the one chain, if there is no parent.
     pub first: Option<Tid>,
     pub last: Option<Tid>,
 }

@@ -164,7 +164,7 @@ pub trait Pages {
         ensures did { PagesCall (only_on_ok key result) 0 0
             (view self.old) (view self.new) result };
 
-    /// There are fewer slots than a `u32` counts, so the number behind each page's is a `u32` too.
+    /// There are fewer slots than a `u32` counts, so the number after each page's is a `u32` too.
     ghost few_slots: { (pages : Self) → (view pages).slots < 2 ^ 32 };
 
     /// A device as it reads is one of its images.

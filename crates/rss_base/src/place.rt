@@ -8,7 +8,7 @@ pub enum Place {
     Size,
     /// The selected root, 1 or 2.
     Root(u8),
-    /// The map's entry of a slot, or, by the number of slots, the bytes behind the last entry.
+    /// The map's entry of a slot, or, by the number of slots, the bytes after the last entry.
     Slot(u32),
     /// A page of the catalog.
     Catalog(u8),

@@ -15,9 +15,8 @@ pub const LOG_PAGES_MOST: u32 = 4096;
 /// before, from 1 on, are read.
 pub const VERSION: u8 = 3;
 
-/// A root of a store: the version of its format, the sizes of the device's parts, the map area in use, and where the log
-/// stands.
-/// Positions in the log count its bytes from 0.
+/// A root of a store: the version of its format, the sizes of the device's parts, the map area in
+/// use, and the log's positions, which count its bytes from 0.
 #[derive(Drop)]
 pub struct Root {
     /// The version of the format, 1 to 3.
@@ -34,6 +33,6 @@ pub struct Root {
     pub checkpoint: u64,
     /// The next position of the log.
     pub end: u64,
-    /// The bytes of the log behind its last full piece.
+    /// The bytes of the log after its last full piece.
     pub tail: Tail,
 }

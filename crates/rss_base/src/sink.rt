@@ -10,8 +10,8 @@ pub trait Sink {
     /// What there is to see of it: what was written, and how often it failed.
     ghost view: { Self → Stream };
 
-    /// Takes the front of `from`, at least a byte where there is one, and answers how many it took.
-    /// A failure takes nothing.
+    /// Takes the front of `from`, at least a byte if there is one, and answers how many it took. A
+    /// failure takes nothing.
     fn write(&mut self, from: &[u8]) -> Result<usize, Failed>
         ensures { WritesBytes from.now (view self.old) (view self.new) result };
 }

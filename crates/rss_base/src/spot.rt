@@ -6,6 +6,6 @@ use crate::Tid;
 pub enum Spot {
     First,
     Last,
-    /// Right behind this one.
+    /// Right after this one.
     After(Tid),
 }

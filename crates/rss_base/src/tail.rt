@@ -7,7 +7,7 @@ use std::marker::Model;
 /// How many bytes of the log a piece has.
 pub const PIECE_BYTES: usize = 4000;
 
-/// The bytes of the log behind its last full piece: fewer than a piece has.
+/// The bytes of the log after its last full piece: fewer than a piece has.
 #[derive(Drop)]
 pub struct Tail {
     bytes: [u8; PIECE_BYTES],

@@ -92,6 +92,13 @@ impl Tuple {
         Ok(())
     }
 
+    /// Takes all values out. The room for them stays.
+    pub fn clear(&mut self)
+        ensures { self.new ≡ [] }
+    {
+        self.values.clear();
+    }
+
     pub fn as_slice(&self) -> &[Value]
         ensures { result.now ≡ self.now }
     {

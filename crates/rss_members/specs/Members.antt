@@ -114,3 +114,7 @@ blank_prefix listing relation = flat_map (blank_listed relation) listing.links
 -- no prefix has more bytes, by the parts that a relation may have in links
 abbrev pub prefix_most : ℕ
 prefix_most = roles_most * 18
+
+-- and with the number of the relation before it
+abbrev pub front_most : ℕ
+front_most = 1 + prefix_most

@@ -19,12 +19,12 @@ use rss_catalog::Catalog;
 use rss_link::Ends;
 use rss_tuple::Tuples;
 
-/// Puts a tuple into a chain: right behind `left`, or first. The catalog lists the ends of a chain
+/// Puts a tuple into a chain: right after `left`, or first. The catalog lists the ends of a chain
 /// that has no parent.
 ///
-/// Where the link isn't listed, has parents and none is given, or has none and one is given, where
-/// the tuple isn't one of its children or stands in a chain of it already, where the parent isn't
-/// there, or `left` not in its chain, the fault is `Damaged`, and nothing is changed.
+/// The fault is `Damaged`, and nothing is changed, if the link isn't listed, has parents and none
+/// is given, or has none and one is given. So it is if the tuple isn't one of its children or
+/// stands in a chain of it already, or if the parent isn't there, or `left` not in its chain.
 pub fn connect<T: Tuples>(
     tuples: &mut T,
     catalog: &mut Catalog,
@@ -56,8 +56,8 @@ pub fn connect<T: Tuples>(
     set_ends(catalog, link, ends)
 }
 
-/// Takes a tuple out of the chain where it stands, right behind `left` or first. Where it doesn't
-/// stand there, the fault is `Damaged`, and nothing is changed.
+/// Takes a tuple out of the chain where it stands, right after `left` or first. If it doesn't stand
+/// there, the fault is `Damaged`, and nothing is changed.
 pub fn disconnect<T: Tuples>(
     tuples: &mut T,
     catalog: &mut Catalog,
@@ -84,7 +84,7 @@ pub fn disconnect<T: Tuples>(
     set_ends(catalog, link, ends)
 }
 
-/// The fault where a tuple can't come into a chain, or doesn't stand there.
+/// The fault if a tuple can't come into a chain, or doesn't stand there.
 fn misplaced(catalog: &Catalog, membership: Membership) -> PageFault
     requires { is_some (link_at catalog.now.listing membership.link) ≡ true }
     ensures { (link : ALink) → link_at catalog.now.listing membership.link ≡ Some link → result
@@ -94,8 +94,8 @@ fn misplaced(catalog: &Catalog, membership: Membership) -> PageFault
     PageFault::Damaged(Place::Tuple(catalog.relation(child).segment, membership.child))
 }
 
-/// Has the catalog list the ends of a link's one chain, where they are others now. Where they are such
-/// as none may be listed, the fault is `Damaged`.
+/// Has the catalog list the ends of a link's one chain, if they are others now. If they are such as
+/// none may be listed, the fault is `Damaged`.
 fn set_ends(catalog: &mut Catalog, link: u8, ends: Ends) -> Result<(), PageFault>
     requires { is_some (link_at catalog.old.listing link) ≡ true }
     ensures sets { OnOk result (SetsEnds link (kept_ends ends) catalog.old catalog.new) }

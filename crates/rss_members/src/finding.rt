@@ -39,7 +39,7 @@ pub fn connected<T: Tuples>(
     Ok(least)
 }
 
-/// The first by name of the links up to this number, where `least` is that of those below it.
+/// The first by name of the links up to `link`; `least` is that of those below it.
 fn least_of<T: Tuples>(
     tuples: &mut T,
     catalog: &Catalog,

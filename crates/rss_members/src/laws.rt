@@ -22,7 +22,7 @@ pub fn blank_prefixes()
         → length (blank_prefix listing number) ≡ prefix_size listing.links number }
 {}
 
-/// Where tables are spelled, so are the chains of each link that is listed.
+/// If tables are spelled, so are the chains of each link that is listed.
 pub fn links_are_spelled()
     ensures { (listing : Listing) (bodies : Bodies) (tables : Tables) (number : ℕ) (link : ALink)
         (child : Entry) → SpellsMembers listing bodies tables → IsListedLink listing number link child
@@ -40,7 +40,7 @@ pub fn blocks_lie_apart()
         (chains_of listing other link_too) (linkage_in listing tables link_too child_too) }
 {}
 
-/// Where one chain of a link has another list in the bodies, no byte was changed but in blocks of the
+/// If one chain of a link has another list in the bodies, no byte was changed but in blocks of the
 /// link, and the listing has its ends, the tables with this list are spelled.
 pub fn spelled_again()
     ensures { (listing : Listing) (old new : Bodies) (tables : Tables) (number : ℕ) (link : ALink)

@@ -3,12 +3,11 @@ ghost use Rattle.std.specs.Prelude.{◌≡◌, ◌+◌, ◌*◌, ◌≤◌, ◌+
 ghost use Rattle.rss_base.specs.Listings.{link_at};
 ghost use Rattle.rss_base.specs.Prefixes.{early_part, prefix_size};
 ghost use Rattle.rss_base.specs.declared.link.LinkEntry.{LinkEntry as ALink};
-ghost use Rattle.rss_tuple.specs.Heaps.{body_most};
 ghost use Rattle.rss_link.specs.Blocks.{kept_ends};
 ghost use Rattle.rss_link.specs.Calls.{IsLink};
-ghost use Rattle.rss_members.specs.Members.{chains_of, block_at, listed_ends, blank_block, blank_prefix};
+ghost use Rattle.rss_members.specs.Members.{chains_of, block_at, listed_ends, blank_block, blank_prefix, front_most};
 
-use rss_base::{Body, Kind, LinkEntry};
+use rss_base::{BoundedBytes, Kind, LinkEntry};
 use rss_catalog::Catalog;
 use rss_link::{Chains, Ends};
 
@@ -63,15 +62,22 @@ pub fn prefix_len(catalog: &Catalog, relation: u8) -> usize
     blocks_len(catalog, relation, catalog.last_link())
 }
 
-/// Puts the prefix of a tuple that stands in no chain and has none behind these bytes, by the number
+/// How many bytes stand before the values in a body at most: the number of the relation, and a block
+/// for each of 16 links.
+pub const FRONT_BYTES: usize = 1 + 16 * 18;
+
+/// What stands before the values in a body.
+pub type Front = BoundedBytes<FRONT_BYTES>;
+
+/// Puts the prefix of a tuple that stands in no chain and has none after these bytes, by the number
 /// of its relation.
-pub fn push_blank_prefix(catalog: &Catalog, relation: u8, body: &mut Body)
-    requires { length body.old + prefix_size catalog.now.listing.links relation ≤ body_most }
-    ensures { body.new ≡ body.old ++ blank_prefix catalog.now.listing relation }
+pub fn push_blank_prefix(catalog: &Catalog, relation: u8, front: &mut Front)
+    requires { length front.old + prefix_size catalog.now.listing.links relation ≤ front_most }
+    ensures { front.new ≡ front.old ++ blank_prefix catalog.now.listing relation }
 {
     for place in 0..catalog.last_link() {
         if catalog.used(Kind::Link, place + 1) {
-            body.extend_from_slice(blank_block(catalog.link(place + 1), relation));
+            front.extend_from_slice(blank_block(catalog.link(place + 1), relation));
         }
     }
 }

@@ -75,7 +75,7 @@ pub fn stands<T: Tuples>(
     chains_of(catalog, link).stands(tuples, child)
 }
 
-/// The parent of the chain in which a tuple stands. None where it stands in none, or the link has no
+/// The parent of the chain in which a tuple stands. None if it stands in none, or the link has no
 /// parents.
 pub fn parent_of<T: Tuples>(
     tuples: &mut T,
@@ -122,7 +122,7 @@ pub fn last_of<T: Tuples>(
     chains_of(catalog, link).last(&ends, tuples, parent)
 }
 
-/// Where a tuple stands in the chains of a link. None where it stands in none.
+/// Where a tuple stands in the chains of a link. None if it stands in none.
 pub fn place_of<T: Tuples>(
     tuples: &mut T,
     catalog: &Catalog,
@@ -163,7 +163,7 @@ fn left_of<T: Tuples>(
     Ok(left)
 }
 
-/// The tuple right behind it.
+/// The tuple right after it.
 fn right_of<T: Tuples>(
     tuples: &mut T,
     catalog: &Catalog,
@@ -210,8 +210,8 @@ fn is_under(place: Option<Membership>, parent: Option<Tid>) -> bool
     }
 }
 
-/// What comes behind a tuple in the chain of a parent, or first in it where no tuple is given; a link
-/// without parents has one chain. None where the tuple isn't in that chain.
+/// What comes after a tuple in the chain of a parent, or first in it if no tuple is given; a link
+/// without parents has one chain. None if the tuple isn't in that chain.
 pub fn next_member<T: Tuples>(
     tuples: &mut T,
     catalog: &Catalog,
@@ -233,7 +233,7 @@ pub fn next_member<T: Tuples>(
     }
 }
 
-/// What comes behind a tuple in the chain of a parent. None where the tuple isn't in that chain.
+/// What comes after a tuple in the chain of a parent. None if the tuple isn't in that chain.
 fn next_of<T: Tuples>(
     tuples: &mut T,
     catalog: &Catalog,
@@ -271,7 +271,7 @@ fn first_under<T: Tuples>(
     first_of(tuples, catalog, link, parent)
 }
 
-/// Whether a parent of a link is there, where it has parents, and none is given where it has none.
+/// Whether a parent of a link is there, if it has parents, and none is given if it has none.
 pub(crate) fn has_parent<T: Tuples>(
     tuples: &mut T,
     catalog: &Catalog,

@@ -104,7 +104,7 @@ pub(crate) fn can_disconnect<T: Tuples>(
     Ok(is_right_there(place, parent, left))
 }
 
-/// Whether a place is in the chain of this parent, right behind this tuple or first.
+/// Whether a place is in the chain of this parent, right after this tuple or first.
 fn is_right_there(place: Option<Membership>, parent: Option<Tid>, left: Option<Tid>) -> bool
     ensures { IsTrue result ↔ IsRightThere parent left place }
 {

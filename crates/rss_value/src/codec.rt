@@ -32,7 +32,7 @@ pub fn fits(fields: &[FieldDef], tuple: &Tuple) -> Result<(), u8>
     }
 }
 
-/// Puts the bytes of a tuple's values behind those that are there. The form is that of
+/// Puts the bytes of a tuple's values after those that are there. The form is that of
 /// `docs/VALUES.md`.
 pub fn encode(fields: &[FieldDef], tuple: &Tuple, into: &mut Body)
     requires fit { misfit (kinds fields.now) tuple.now ≡ None }
@@ -81,24 +81,43 @@ pub fn spells(fields: &[FieldDef], bytes: &[u8]) -> bool
     cursor.is_at_end()
 }
 
-/// The tuple whose values' bytes these are, or `None` where they spell no tuple that fits the
-/// fields. It takes one allocation, and one more for each text.
+/// The tuple whose values' bytes these are, or `None` if they spell no tuple that fits the fields.
+/// It takes one allocation, and one more for each text.
 pub fn decode(alloc: Global, fields: &[FieldDef], bytes: &[u8]) -> Result<Option<Tuple>, AllocError>
     ensures some { IfOk result (λ tuple. IfSome tuple (Spells (kinds fields.now) bytes.now)) }
     ensures exact { IfOk result (λ tuple. (values : List Value)
         → Spells (kinds fields.now) bytes.now values → tuple ≡ Some values) }
 {
-    let mut cursor = Cursor::new(bytes);
     let mut tuple = Tuple::with_capacity(alloc, fields.len())?;
-    for field in fields {
-        let Some(value) = cursor.read(field.form()) else {
-            return Ok(None);
-        };
-        tuple.push(value.to_value(alloc)?)?;
-    }
-    if cursor.is_at_end() {
+    if decode_into(alloc, fields, bytes, &mut tuple)? {
         Ok(Some(tuple))
     } else {
         Ok(None)
     }
+}
+
+/// Fills a tuple with the values whose bytes these are, in place of those that it has, and tells
+/// whether there are such: not if the bytes spell no tuple that fits the fields. What the tuple
+/// holds then, or if memory lacks, isn't said. It takes one allocation for each text, and room for
+/// the values if the tuple has too little.
+pub fn decode_into(
+    alloc: Global,
+    fields: &[FieldDef],
+    bytes: &[u8],
+    into: &mut Tuple,
+) -> Result<bool, AllocError>
+    ensures some { IfOk result (λ spelled. IsTrue spelled
+        → Spells (kinds fields.now) bytes.now into.new) }
+    ensures exact { IfOk result (λ spelled. (values : List Value)
+        → Spells (kinds fields.now) bytes.now values → IsTrue spelled × (into.new ≡ values)) }
+{
+    into.clear();
+    let mut cursor = Cursor::new(bytes);
+    for field in fields {
+        let Some(value) = cursor.read(field.form()) else {
+            return Ok(false);
+        };
+        into.push(value.to_value(alloc)?)?;
+    }
+    Ok(cursor.is_at_end())
 }

@@ -35,8 +35,8 @@ impl<'a> Cursor<'a> {
         self.rest.is_empty()
     }
 
-    /// The value of a field of this form that the bytes begin with. Where there is none, the
-    /// cursor may stand anywhere.
+    /// The value of a field of this form that the bytes begin with. If there is none, the cursor
+    /// may stand anywhere.
     pub fn read(&mut self, form: FieldForm) -> Option<ValueRef<'a>>
         ensures { Reads form self.old result self.new }
     {

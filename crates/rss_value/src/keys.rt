@@ -28,7 +28,7 @@ pub fn key(fields: &[FieldDef], which: &[u8], values: &[u8], into: &mut Key)
     }
 }
 
-/// Puts the part of one field behind what is there.
+/// Puts the part of one field after what is there.
 fn put_part(fields: &[FieldDef], number: u8, values: &[u8], into: &mut Key)
     requires spelled { SpellsSome (kinds fields.now) values.now }
     requires number { IsNumberOf fields.now number }

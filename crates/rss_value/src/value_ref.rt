@@ -56,7 +56,7 @@ impl<'a> ValueRef<'a> {
         }
     }
 
-    /// Puts the bytes that the value has in a field of this form behind those that are there.
+    /// Puts the bytes that the value has in a field of this form after those that are there.
     pub fn write(&self, form: FieldForm, into: &mut Body)
         requires fit { fits form (value_of self.now) ≡ true }
         requires room { length into.old + length (marked_bytes form.added (value_of self.now))
@@ -75,7 +75,7 @@ impl<'a> ValueRef<'a> {
         }
     }
 
-    /// Puts the part of a key that a field of this form has behind what is there.
+    /// Puts the part of a key that a field of this form has after what is there.
     pub fn write_key_part(&self, form: FieldForm, into: &mut Key)
         requires fit { fits form (value_of self.now) ≡ true }
         requires room { length into.old + key_part_width form ≤ KEY_BYTES }
@@ -97,7 +97,7 @@ impl<'a> ValueRef<'a> {
         }
     }
 
-    /// Puts the byte that stands before the value of an added field behind what is there.
+    /// Puts the byte that stands before the value of an added field after what is there.
     fn push_mark<const N: usize>(&self, added: bool, into: &mut BoundedBytes<N>)
         requires { length into.old + mark_width added ≤ N }
         ensures { into.new ≡ into.old ++ mark_bytes added (value_of self.now) }

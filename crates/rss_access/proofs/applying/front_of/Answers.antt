@@ -1,6 +1,3 @@
-use Rattle.std.proofs.Common.{sym, subst}
-use Rattle.std.specs.Prelude.{Option}
-use Rattle.rss_base.proofs.Steps.{done, fails}
 use Rattle.rss_access.specs.Edits.{told_by}
 use Rattle.rss_access.proofs.applying.front_of.Goals as goal
 use Rattle.rss_access.proofs.Fronts.{found_as, not_found_as}

@@ -1,5 +1,5 @@
 -- The bytes behind the blocks are those of values, or there are none.
-use Rattle.std.proofs.Common.{◌∙◌, List, ℕ, refl, sym, subst}
+use Rattle.std.proofs.Common.{◌∙◌, refl, sym, subst}
 use Rattle.std.proofs.lemmas.Bool.{false≢true}
 use Rattle.rss_base.specs.TupleTypes.{kinds, SpellsSome}
 use Rattle.rss_access.proofs.Bodied.{one_bytes}

@@ -6,7 +6,6 @@ use Rattle.std.proofs.lemmas.Result.{IfOk-weaker}
 use Rattle.std.proofs.Math.Logic.{∥∥₁_map, ∥∥₁_elim}
 use mathlib.Core.HLevel.{⊥_prop}
 use Rattle.rss_base.proofs.Steps.{then_call, widens, all_held}
-use Rattle.rss_base.specs.TupleTypes.{SpellsSome}
 use Rattle.rss_image.specs.Images.{HasImage}
 use Rattle.rss_node.specs.Pairs.{pair_bytes}
 use Rattle.rss_tuple.proofs.Located.{said_of}

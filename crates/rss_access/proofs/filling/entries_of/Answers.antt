@@ -1,5 +1,5 @@
 -- Each tuple of the segment is looked at once, those of the relation are kept with their keys, and at last they are sorted.
-use Rattle.std.proofs.Common.{rules, ◌≡◌, ◌+◌, ◌<◌, ℕ, List, [], ◌∷◌, ◌++◌, length, Some, sym, ap, subst, arith, length-append}
+use Rattle.std.proofs.Common.{rules, ◌≡◌, ◌+◌, ℕ, List, [], ◌∷◌, ◌++◌, length, Some, sym, ap, subst, arith, length-append}
 use Rattle.std.proofs.lemmas.List.Sorted.{answers_always}
 use Rattle.rss_base.specs.declared.tid.Tid.{Tid}
 use Rattle.rss_base.proofs.Looking.{passed_on}

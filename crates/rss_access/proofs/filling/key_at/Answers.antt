@@ -1,10 +1,8 @@
 -- The bytes behind the relation's number and the blocks are those of the tuple's values, and the key is theirs.
 use Rattle.std.proofs.Common.{ℕ, List, sym, subst}
-use Rattle.std.proofs.lemmas.Result.{err_from_is_err_and}
 use Rattle.rss_tuple.proofs.Located.{said_of}
 use Rattle.rss_access.specs.Bodies.{HoldsBytes}
 use Rattle.rss_access.proofs.Gathering.{body_found}
-use Rattle.rss_access.proofs.Searching.{searches, searched}
 use Rattle.rss_access.proofs.filling.key_at.Goals as goal
 
 pub returns-in_err-key-clause-fault : goal.returns-in_err-key-clause-fault

@@ -1,7 +1,5 @@
-use Rattle.std.proofs.Common.{◌≡◌, ◌∙◌, true, sym, arith}
-use Rattle.std.specs.Prelude.{Some, slice_get}
+use Rattle.std.proofs.Common.{◌∙◌, sym, arith}
 use Rattle.std.proofs.lemmas.Bool.{true≢false}
-use Rattle.std.proofs.lemmas.Grind.{common_steps}
 use Rattle.rss_base.proofs.Steps.{done, fails}
 use Rattle.rss_tuple.proofs.Located.{said_of}
 use Rattle.rss_access.proofs.TupleChanges.{absent_body, own_body, other_body}
@@ -16,20 +14,18 @@ returns-in_default-clause-finds g c = λ told. absent_body ((rw c.in_default.is 
 pub returns-in_default-clause-did : goal.returns-in_default-clause-did
 returns-in_default-clause-did g c = done _ c.in_ok-at.ensures.did.below.step
 
-pub returns-then-eq-clause-finds : goal.returns-then-eq-clause-finds
-returns-then-eq-clause-finds g c = λ told.
-    let first : slice_get c.body.result.now 0 ≡ Some c.args.number = grind (arith, common_steps) in
+pub returns-then-is_of-clause-finds : goal.returns-then-is_of-clause-finds
+returns-then-is_of-clause-finds g c = λ told.
     let lent = c.body.ensures.are (c.in_ok-at.ensures.did.below.step.passes.leaves.told.0 told) in
-    record { bytes = c.body.result.now; there = lent; so = own_body (said_of ((rw c.in-Some.is at c.in_ok-at.ensures.found) told) lent) first }
+    record { bytes = c.body.result.now; there = lent; so = own_body (said_of ((rw c.in-Some.is at c.in_ok-at.ensures.found) told) lent) (c.is_of.ensures.0 c.if-is_of.true) }
 
-pub returns-then-eq-clause-did : goal.returns-then-eq-clause-did
-returns-then-eq-clause-did g c = done _ c.in_ok-at.ensures.did.below.step
+pub returns-then-is_of-clause-did : goal.returns-then-is_of-clause-did
+returns-then-is_of-clause-did g c = done _ c.in_ok-at.ensures.did.below.step
 
-pub returns-else-eq-clause-finds : goal.returns-else-eq-clause-finds
-returns-else-eq-clause-finds g c = λ told.
-    let back : slice_get c.body.result.now 0 ≡ Some c.args.number → c.eq.result ≡ true = grind (arith, common_steps) in
+pub returns-else-is_of-clause-finds : goal.returns-else-is_of-clause-finds
+returns-else-is_of-clause-finds g c = λ told.
     let lent = c.body.ensures.are (c.in_ok-at.ensures.did.below.step.passes.leaves.told.0 told) in
-    other_body (said_of ((rw c.in-Some.is at c.in_ok-at.ensures.found) told) lent) (λ first. true≢false (sym (back first) ∙ c.if-eq.false))
+    other_body (said_of ((rw c.in-Some.is at c.in_ok-at.ensures.found) told) lent) (λ first. true≢false (sym (c.is_of.ensures.1 first) ∙ c.if-is_of.false))
 
-pub returns-else-eq-clause-did : goal.returns-else-eq-clause-did
-returns-else-eq-clause-did g c = done _ c.in_ok-at.ensures.did.below.step
+pub returns-else-is_of-clause-did : goal.returns-else-is_of-clause-did
+returns-else-is_of-clause-did g c = done _ c.in_ok-at.ensures.did.below.step

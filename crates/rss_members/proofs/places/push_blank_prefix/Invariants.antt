@@ -5,4 +5,4 @@ use Rattle.rss_members.specs.Members.{blank_listed}
 use Rattle.rss_members.proofs.places.push_blank_prefix.Given as goal
 
 abbrev pub invariant-loop-place : goal.invariant-loop-place
-invariant-loop-place l = l.body ≡ l.initial.body ++ flat_map (blank_listed l.relation) (take l.place l.catalog.listing.links)
+invariant-loop-place l = l.front ≡ l.initial.front ++ flat_map (blank_listed l.relation) (take l.place l.catalog.listing.links)
