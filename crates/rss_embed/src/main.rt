@@ -2,18 +2,20 @@
 //! in a transaction, and fetches them again after the store was opened anew.
 #![tactic(auto)]
 
-ghost use Rattle.std.specs.Prelude.{◌≡◌, true, [], ◌∷◌, IfOk};
+ghost use Rattle.std.specs.Prelude.{◌≡◌, true, [], ◌∷◌, IfOk, OnOk};
 ghost use Rattle.rss_base.specs.declared.value.Value.TheVariants.{Int};
 ghost use Rattle.rss_base.specs.declared.call.Call.TheVariants.{Insert, Fetch};
 ghost use Rattle.rss_base.specs.declared.answer.Reply.TheVariants.{Tid as Identifier, Tuple as Found};
 ghost use Rattle.rss_model.specs.Defining.{DefinesNames, LocksGranule};
 ghost use Rattle.rss_embed.specs.Made.{Made};
+ghost use Rattle.rss_rsi.specs.Parts.{view};
 
 use rss_base::{
     Call, CallError, FieldDef, FieldKind, Fields, Name, OpenFault, Reply, Tid, Tuple, Value,
 };
+use rss_buffer::Saving;
 use rss_device::MemDevice;
-use rss_rsi::{MOST_FRAMES, format, open};
+use rss_rsi::{MOST_FRAMES, Rss, format, open};
 use rss_stored::{CALLS_MOST, Engine};
 use std::alloc::{AllocError, Global};
 use std::io;
@@ -54,7 +56,7 @@ impl From<CallError> for Failure {
     }
 }
 
-/// Makes a call, where the engine may be asked for one more.
+/// Makes a call, if the engine may be asked for one more.
 fn ask<E: Engine>(engine: &mut E, call: &Call) -> Result<Reply, Failure>
     requires names { DefinesNames call.now }
     requires granule { LocksGranule call.now }
@@ -101,23 +103,30 @@ fn insert_both<E: Engine>(engine: &mut E, alloc: Global) -> Result<[Tid; 2], Fai
     Ok([first, second])
 }
 
-/// Fetches a tuple in transaction 1.
-fn fetch<E: Engine>(engine: &mut E, tid: Tid) -> Result<Tuple, Failure>
-    ensures { IfOk result (λ tuple. Made (E.view engine.old) (E.view engine.new)
-        (Fetch 1 RELATION tid) (Found tuple)) }
+/// Fetches a tuple in transaction 1, into `row`.
+fn fetch<S: Saving>(store: &mut Rss<S>, tid: Tid, row: &mut Tuple) -> Result<(), Failure>
+    ensures { OnOk result (Made (view store.old) (view store.new)
+        (Fetch 1 RELATION tid) (Found row.new)) }
 {
-    match ask(engine, &Call::Fetch(1, RELATION, tid))? {
-        Reply::Tuple(tuple) => Ok(tuple),
-        other => Err(Failure::Reply(other)),
+    if store.calls() >= CALLS_MOST {
+        return Err(Failure::Calls);
     }
+    store.fetch_into(1, &RELATION, tid, row)?;
+    Ok(())
 }
 
 /// Prints each of these tuples, as a run from now on finds them.
-fn print_all<E: Engine, R: Print>(rt: &R, engine: &mut E, tids: &[Tid]) -> Result<(), Failure> {
-    ask(engine, &Call::Begin(1))?;
+fn print_all<S: Saving, R: Print>(
+    rt: &R,
+    alloc: Global,
+    store: &mut Rss<S>,
+    tids: &[Tid],
+) -> Result<(), Failure> {
+    ask(store, &Call::Begin(1))?;
+    let mut row = Tuple::new(alloc);
     for tid in tids {
-        let tuple = fetch(engine, *tid)?;
-        println!(rt; "{}.{} holds {:?}", tid.page, tid.slot, tuple.as_slice())?;
+        fetch(store, *tid, &mut row)?;
+        println!(rt; "{}.{} holds {:?}", tid.page, tid.slot, row.as_slice())?;
     }
     Ok(())
 }
@@ -131,7 +140,7 @@ fn main(rt: HostRuntime) -> Result<(), Failure> {
     let device = store.into_pages().into_device();
     let tids = tids?;
     let mut store = open(rt.alloc(), device, MOST_FRAMES).map_err(|unopened| unopened.fault)?;
-    let printed = print_all(&rt, &mut store, &tids);
+    let printed = print_all(&rt, rt.alloc(), &mut store, &tids);
     let _ = store.into_pages().into_device();
     printed
 }

@@ -17,6 +17,7 @@ pub mod Beside
 pub mod Placed
 pub mod KeyLocks
 pub mod TupleTests
+pub mod Reused
 pub mod Fetches
 pub mod Scans
 pub mod ScanCalls

@@ -12,3 +12,4 @@ pub mod Placing
 pub mod Scanning
 pub mod Linking
 pub mod Bodies
+pub mod Replies

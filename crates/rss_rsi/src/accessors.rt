@@ -40,7 +40,7 @@ impl<S: Saving> Rss<S> {
             .saturating_sub(SYSTEM_PAGES)
     }
 
-    /// How many levels of nodes the image of this name has, where it is defined.
+    /// How many levels of nodes the image of this name has, if it is defined.
     pub fn levels(&self, image: &Name) -> Option<u8>
         ensures some { IfSome result
             (IsOfLevels (session_of self.now).store.catalog.listing image.now) }
@@ -54,8 +54,8 @@ impl<S: Saving> Rss<S> {
         Some(catalog.image(number).levels)
     }
 
-    /// How many slots may be needed, by the rule of room, as each state counts them that is shown: a
-    /// change is refused where one more might need more than there are.
+    /// How many slots may be needed, by the rule of room, as each state counts them that is shown:
+    /// a change is refused if one more might need more than there are.
     pub fn room(&self) -> u64
         ensures { (state : State) → (view self.now).shows state
             → result ≡ room_number state.base.definitions state.meter }

@@ -13,8 +13,8 @@ use rss_buffer::Saving;
 impl<S: Saving> Rss<S> {
     ghost use Rattle.rss_rsi.specs.Parts.{parts_of, session_of};
 
-    /// Makes a change of a tuple or of a chain, where the rules on room and on the log let it through. Nothing is
-    /// changed where they don't, nor where memory runs out.
+    /// Makes a change of a tuple or of a chain, if the rules on room and on the log let it through.
+    /// Nothing is changed if they don't, nor if memory runs out.
     pub(crate) fn change(&mut self, transaction: u32, change: Change) -> Result<(), CallError>
         requires up { self.old.down ≡ false }
         requires asked { IsAsked (parts_of self.old) self.old.calls }

@@ -21,12 +21,12 @@ use rss_buffer::Saving;
 impl<S: Saving> Rss<S> {
     ghost use Rattle.rss_rsi.specs.Parts.{parts_of, session_of, view};
 
-    /// The identifier that a transaction's new tuple gets in the relation of this number, with a body of
+    /// The identifier that a transaction's new tuple gets in the relation `number`, with a body of
     /// this length: one that no tuple of the segment has, and none that another transaction holds.
-    /// Nothing is changed, and the call that puts the tuple is refused where none is free.
+    /// Nothing is changed, and the call that puts the tuple is refused if none is free.
     ///
-    /// What others hold is asked for the identifier that is chosen, and gathered only where they hold
-    /// that one. Nothing is asked where they hold nothing.
+    /// What others hold is asked for the identifier that is chosen, and gathered only if they hold
+    /// that one. Nothing is asked if they hold nothing.
     pub(crate) fn place_for(
         &mut self,
         transaction: u32,
@@ -71,8 +71,8 @@ impl<S: Saving> Rss<S> {
         }
     }
 
-    /// The identifier that a new tuple gets in a segment, with a body of this length, where these are
-    /// barred; if one is free.
+    /// The identifier that a new tuple gets in a segment, with a body of this length, with these
+    /// barred, if one is free.
     fn choose(&mut self, segment: u8, length: u16, barred: &[Tid]) -> Result<Option<Tid>, CallError>
         requires up { self.old.down ≡ false }
         requires may { MayPut segment length }

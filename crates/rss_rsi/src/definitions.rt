@@ -32,7 +32,7 @@ impl<S: Saving> Rss<S> {
         self.redefine(made)
     }
 
-    /// Defines a relation. It takes memory for its fields, and else none.
+    /// Defines a relation. It takes memory for its fields, and otherwise none.
     pub fn make_relation(
         &mut self,
         name: &Name,

@@ -6,7 +6,7 @@ ghost use Rattle.rss_stored.specs.Calls.{calls_most};
 use crate::Rss;
 use crate::locking::Access;
 use crate::values::values_of;
-use rss_base::{CallError, Change, Name, Reply, Tid};
+use rss_base::{CallError, Change, Name, Reply, Tid, Tuple};
 use rss_buffer::Saving;
 
 impl<S: Saving> Rss<S> {
@@ -27,7 +27,16 @@ impl<S: Saving> Rss<S> {
     {
         self.ask()?;
         let number = self.session.admit(transaction, relation)?;
-        let found = self.find(transaction, number, relation, tid, Access::Change, None)?;
+        let row = Tuple::new(self.alloc);
+        let found = self.find(
+            transaction,
+            number,
+            relation,
+            tid,
+            Access::Change,
+            None,
+            row,
+        )?;
         match self.test_unconnected(number, tid) {
             Ok(()) => (),
             Err(why) => return Err(self.keep(transaction, found.needs, why)),

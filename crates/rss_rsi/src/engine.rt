@@ -24,11 +24,11 @@ use std::alloc::Global;
 /// locks that they hold, and their scans.
 ///
 /// A transaction's changes go to the pages and to the log in memory at once, and are committed when
-/// it ends. Up to 32 are open at a time, and their calls come in any order: a call whose item another
-/// transaction holds is refused.
+/// it ends. Up to 32 are open at a time, and their calls come in any order: a call whose item
+/// another transaction holds is refused.
 ///
-/// Each call has a method of its own, which answers as `Engine` says. While a call changes pages the
-/// store counts as down, and so it stays where the call fails.
+/// Each call has a method of its own, which answers as `Engine` says. While a call changes pages
+/// the store counts as down, and so it stays if the call fails.
 pub struct Rss<S: Saving> {
     pub(crate) session: Session<S>,
     /// What its transactions hold.
@@ -51,8 +51,7 @@ pub struct Rss<S: Saving> {
 impl<S: Saving> Rss<S> {
     ghost use Rattle.rss_rsi.specs.Parts.{parts_of};
 
-    /// The store of a session in which no transaction is open. It is up, and was asked for no call as
-    /// yet.
+    /// The store of a session in which no transaction is open. It is up, and was asked for no call.
     pub(crate) fn new(alloc: Global, session: Session<S>, scans: Scans) -> Self
         requires ready { IsReady (record {
           session = session_view S.view session;

@@ -60,7 +60,7 @@ impl<S: Saving> Rss<S> {
         self.commit_image()
     }
 
-    /// The entries of an image that was planned. Nothing is changed, also where memory runs out.
+    /// The entries of an image that was planned. Nothing is changed, also if memory runs out.
     fn image_entries(&mut self, image: &ImageEntry) -> Result<Vec<(Key, Tid)>, CallError>
         requires up { self.old.down ≡ false }
         requires planned { IsPlanned (session_of self.old).store.catalog.listing image.now }

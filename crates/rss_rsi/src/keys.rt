@@ -21,8 +21,8 @@ use std::alloc::{AllocError, Global};
 impl<S: Saving> Rss<S> {
     ghost use Rattle.rss_rsi.specs.Parts.{parts_of, session_of};
 
-    /// Puts the locks of the keys of two tuples, as far as they are given, behind others: in each
-    /// unique image of the relation of this number that of `was` and then that of `to`.
+    /// Puts the locks of the keys of two tuples, as far as they are given, after others: in each
+    /// unique image of the relation `number` that of `was` and then that of `to`.
     pub(crate) fn push_keys(
         &self,
         needs: &mut Vec<Need>,
@@ -56,7 +56,7 @@ impl<S: Saving> Rss<S> {
         Ok(())
     }
 
-    /// Why a tuple of these values is refused in the relation of this number: of the unique images that
+    /// Why a tuple of these values is refused in the relation `number`: of the unique images that
     /// have its key for another tuple than `own`, the first by its name. Nothing is changed.
     pub(crate) fn find_duplicate(
         &mut self,
@@ -85,7 +85,7 @@ impl<S: Saving> Rss<S> {
     }
 }
 
-/// Puts the lock of a tuple's key in an image behind others, if there is a tuple.
+/// Puts the lock of a tuple's key in an image after others, if there is a tuple.
 fn push_key(
     alloc: Global,
     needs: &mut Vec<Need>,
@@ -128,7 +128,7 @@ fn key_item(image: &Name, key: Tuple) -> Item
     Item::Key(*image, key)
 }
 
-/// The values of the fields of these numbers.
+/// The values of the fields that `which` numbers.
 fn key_values(alloc: Global, which: &[u8], tuple: &Tuple) -> Result<Tuple, AllocError>
     requires { All (IsFieldNumber (length tuple.now)) which.now }
     ensures { IfOk result (λ key. key ≡ chosen which.now tuple.now) }

@@ -20,8 +20,8 @@ use std::alloc::AllocError;
 impl<S: Saving> Rss<S> {
     ghost use Rattle.rss_rsi.specs.Parts.{parts_of, session_of};
 
-    /// The locks with which a tuple comes into the chain of a parent in a link, which has this number,
-    /// or into the chain of a link without parents.
+    /// The locks with which a tuple comes into the chain of a parent in the link `number`, or into
+    /// the chain of a link without parents.
     pub(crate) fn connect_needs(
         &self,
         link: &Name,
@@ -113,8 +113,8 @@ impl<S: Saving> Rss<S> {
         }
     }
 
-    /// Puts the locks of a chain behind others, and before its own those with which its parent is read,
-    /// if it has one.
+    /// Puts the locks of a chain after others, and before its own those with which its parent is
+    /// read, if it has one.
     fn push_chain(
         &self,
         needs: &mut Vec<Need>,
@@ -137,7 +137,7 @@ impl<S: Saving> Rss<S> {
         Ok(())
     }
 
-    /// Puts the locks with which the parent of a chain is read behind others, if it has one.
+    /// Puts the locks with which the parent of a chain is read after others, if it has one.
     fn push_upper(
         &self,
         needs: &mut Vec<Need>,

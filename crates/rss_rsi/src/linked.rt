@@ -26,9 +26,9 @@ use rss_members::Membership;
 impl<S: Saving> Rss<S> {
     ghost use Rattle.rss_rsi.specs.Parts.{session_of};
 
-    /// The tuple behind which a tuple comes into the chain of a parent at a spot, if behind any. The
-    /// call that puts it there is refused where there is no such tuple or no such parent, where the
-    /// tuple stands in a chain of the link, and where there is no such spot.
+    /// The tuple after which a tuple comes into the chain of a parent at a spot, if after any. The
+    /// call that puts it there is refused if there is no such tuple or no such parent, if the tuple
+    /// stands in a chain of the link, and if there is no such spot.
     pub(crate) fn test_connect(
         &mut self,
         link: &Name,
@@ -76,7 +76,7 @@ impl<S: Saving> Rss<S> {
     }
 
     /// The parent in whose chain a tuple stands, if it stands in one. The call that asks for it is
-    /// refused where there is no such tuple.
+    /// refused if there is no such tuple.
     pub(crate) fn find_parent(
         &mut self,
         link: &Name,
@@ -144,7 +144,7 @@ impl<S: Saving> Rss<S> {
         self.test_there(relation, child)
     }
 
-    /// There is a tuple with this identifier in the relation of this number.
+    /// There is a tuple with this identifier in the relation `number`.
     fn test_there(&mut self, number: u8, tid: Tid) -> Result<(), CallError>
         requires up { self.old.down ≡ false }
         requires known { is_some (relation_at (session_of self.old).store.catalog.listing number)
@@ -189,7 +189,7 @@ impl<S: Saving> Rss<S> {
         }
     }
 
-    /// The tuple behind which a spot is in the chain of a parent, if behind any.
+    /// The tuple after which a spot is in the chain of a parent, if after any.
     fn find_spot(
         &mut self,
         link: &Name,
@@ -222,7 +222,7 @@ impl<S: Saving> Rss<S> {
         Ok(left)
     }
 
-    /// Where a tuple stands in the chains of the link of this number, if it stands in one.
+    /// Where a tuple stands in the chains of the link `number`, if it stands in one.
     pub(crate) fn place_of(
         &mut self,
         number: u8,
@@ -250,7 +250,7 @@ impl<S: Saving> Rss<S> {
         Ok(found)
     }
 
-    /// A tuple of the relation of this number stands in no chain of any link, and has none.
+    /// A tuple of the relation `number` stands in no chain of any link, and has none.
     pub(crate) fn test_unconnected(&mut self, number: u8, tid: Tid) -> Result<(), CallError>
         requires up { self.old.down ≡ false }
         requires known { is_some (relation_at (session_of self.old).store.catalog.listing number)

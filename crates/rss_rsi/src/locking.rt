@@ -68,7 +68,7 @@ impl<S: Saving> Rss<S> {
         self.locks.holder(item)
     }
 
-    /// The locks of a segment or a relation, which has this number.
+    /// The locks of a segment or a relation, whose number is `number`.
     fn granule_needs(
         &self,
         number: u8,
@@ -100,7 +100,7 @@ impl<S: Saving> Rss<S> {
         Ok(needs)
     }
 
-    /// The locks of a relation, which has this number, and of its segment before it.
+    /// The locks of a relation, whose number is `number`, and of its segment before it.
     pub(crate) fn relation_needs(
         &self,
         number: u8,
@@ -120,7 +120,8 @@ impl<S: Saving> Rss<S> {
         Ok(needs)
     }
 
-    /// Puts the locks of a relation, which has this number, and of its segment before it, behind others.
+    /// Puts the locks of a relation, whose number is `number`, and of its segment before it, after
+    /// others.
     pub(crate) fn push_relation(
         &self,
         needs: &mut Vec<Need>,
@@ -146,7 +147,7 @@ impl<S: Saving> Rss<S> {
         Ok(())
     }
 
-    /// The locks of a scan of the image of this number: its relation is read.
+    /// The locks of a scan of the image `number`: its relation is read.
     pub(crate) fn image_needs(&self, number: u8) -> Result<Vec<Need>, AllocError>
         requires { is_some (image_at (session_of self.now).store.catalog.listing number) ≡ true }
         ensures lists { IfOk result (λ needs. (image : Name)
@@ -161,8 +162,8 @@ impl<S: Saving> Rss<S> {
         self.relation_needs(relation, &name, Mode::IS, Mode::S)
     }
 
-    /// The locks with which a tuple of a relation, which has this number, is read, or changed to the
-    /// values of `to`, if it is given any; where it has these values, if it is there.
+    /// The locks with which a tuple of a relation, whose number is `number`, is read, or changed to
+    /// the values of `to`, if it is given any. It has the values of `found`, if it is there.
     pub(crate) fn tuple_needs(
         &self,
         number: u8,
@@ -194,7 +195,7 @@ impl<S: Saving> Rss<S> {
         }
     }
 
-    /// The locks of a tuple of a relation, which has this number, and of what it stands in.
+    /// The locks of a tuple of a relation, whose number is `number`, and of what it stands in.
     pub(crate) fn plain_needs(
         &self,
         number: u8,
@@ -216,7 +217,7 @@ impl<S: Saving> Rss<S> {
         Ok(needs)
     }
 
-    /// The locks with which a tuple of these values is put, and that of the new tuple behind them.
+    /// The locks with which a tuple of these values is put, and that of the new tuple after them.
     pub(crate) fn new_needs(
         &self,
         number: u8,

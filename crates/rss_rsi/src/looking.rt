@@ -17,7 +17,7 @@ ghost use Rattle.rss_rsi.specs.Bodies.{StandsThere, ComesOf, TupleComes, IsDownB
 
 use crate::Rss;
 use crate::locking::Access;
-use rss_access::{made_of, spelled_in};
+use rss_access::{made_into, spelled_in};
 use rss_base::{CallError, Name, Need, PAGE_ENTRIES, Place, Refusal, Tid, Tuple, name_is_whole};
 use rss_buffer::Saving;
 use rss_catalog::Catalog;
@@ -34,11 +34,11 @@ pub(crate) struct Found {
 impl<S: Saving> Rss<S> {
     ghost use Rattle.rss_rsi.specs.Parts.{parts_of, session_of, view};
 
-    /// The tuple with this identifier of a relation, which has this number; with the locks that the
-    /// call needs, which are claimed. The call gives it the values of `to`, if it gives it any. No tuple
-    /// is changed. The call that looks for it is refused where
-    /// another transaction holds what it needs, and then where there is no such tuple; that refusal
-    /// keeps the locks.
+    /// The tuple with this identifier of a relation, whose number is `number`, with the locks that
+    /// the call needs, which are claimed. The call gives it the values of `to`, if it gives it any.
+    /// No tuple is changed. The call that looks for it is refused if another transaction holds what
+    /// it needs, and then if there is no such tuple; that refusal keeps the locks. The tuple gets
+    /// the memory of `row`, whose values go.
     pub(crate) fn find(
         &mut self,
         transaction: u32,
@@ -47,6 +47,7 @@ impl<S: Saving> Rss<S> {
         tid: Tid,
         access: Access,
         to: Option<&Tuple>,
+        row: Tuple,
     ) -> Result<Found, CallError>
         requires up { self.old.down ≡ false }
         requires open { is_open (session_of self.old).opened transaction ≡ true }
@@ -65,7 +66,7 @@ impl<S: Saving> Rss<S> {
             (option_to_list (option_copied to.entry)))
             (view self.old) (view self.new) (Err why)) }
     {
-        let found = self.look_up(number, tid)?;
+        let found = self.look_up(number, tid, row)?;
         let Ok(needs) = self.tuple_needs(number, relation, tid, access, &found, to) else {
             return Err(CallError::NoMemory);
         };
@@ -79,9 +80,9 @@ impl<S: Saving> Rss<S> {
         }
     }
 
-    /// The tuple with this identifier of the relation of this number, if there is one. Nothing is
-    /// changed.
-    fn look_up(&mut self, number: u8, tid: Tid) -> Result<Option<Tuple>, CallError>
+    /// The tuple with this identifier of the relation `number`, if there is one, in the memory of
+    /// `row`. Nothing is changed.
+    fn look_up(&mut self, number: u8, tid: Tid, row: Tuple) -> Result<Option<Tuple>, CallError>
         requires up { self.old.down ≡ false }
         requires known { is_some (relation_at (session_of self.old).store.catalog.listing number)
             ≡ true }
@@ -104,13 +105,13 @@ impl<S: Saving> Rss<S> {
         let Some(at) = found else {
             return Ok(None);
         };
-        let tuple = self.tuple_at(number, segment, tid, at)?;
+        let tuple = self.tuple_at(number, segment, tid, at, row)?;
         Ok(Some(tuple))
     }
 
-    /// Where the body of the tuple with this identifier stands, which the relation of this number has,
-    /// in this segment. It takes no memory. Its one error beside those of the pages is damage at the
-    /// tuple, where there is none: only a device that doesn't tell its contents lacks it.
+    /// Where the body of the tuple with this identifier stands, which the relation `number` has, in
+    /// this segment. It takes no memory. Its one error beside those of the pages is damage at the
+    /// tuple, if there is none: only a device that doesn't tell its contents lacks it.
     pub(crate) fn there(&mut self, number: u8, segment: u8, tid: Tid) -> Result<BodyAt, CallError>
         requires up { self.old.down ≡ false }
         ensures calls { self.new.calls ≡ self.old.calls }
@@ -130,14 +131,15 @@ impl<S: Saving> Rss<S> {
         Ok(at)
     }
 
-    /// The tuple of the relation of this number, in this segment, whose body stands there. It touches
-    /// no page.
+    /// The tuple of the relation `number`, in this segment, whose body stands there, in the memory
+    /// of `row`. It touches no page.
     pub(crate) fn tuple_at(
         &mut self,
         number: u8,
         segment: u8,
         tid: Tid,
         at: BodyAt,
+        row: Tuple,
     ) -> Result<Tuple, CallError>
         requires up { self.old.down ≡ false }
         requires known { is_some (relation_at (session_of self.old).store.catalog.listing number)
@@ -152,13 +154,20 @@ impl<S: Saving> Rss<S> {
             → TupleComes (session_of self.old) number relation (TuplePlace segment tid) at result }
         ensures ends { IsDownBy result self.new.down }
     {
-        let read = self.read_at(number, segment, tid, at);
+        let read = self.read_at(number, segment, tid, at, row);
         self.down = is_damage(&read);
         read
     }
 
-    /// The same, where nothing is said of whether the engine goes down.
-    fn read_at(&self, number: u8, segment: u8, tid: Tid, at: BodyAt) -> Result<Tuple, CallError>
+    /// The same, but nothing is said of whether the engine goes down.
+    fn read_at(
+        &self,
+        number: u8,
+        segment: u8,
+        tid: Tid,
+        at: BodyAt,
+        row: Tuple,
+    ) -> Result<Tuple, CallError>
         requires known { is_some (relation_at (session_of self.now).store.catalog.listing number)
             ≡ true }
         requires there { IsInMemory (session_of self.now).store.pages at }
@@ -168,12 +177,13 @@ impl<S: Saving> Rss<S> {
     {
         let catalog = &self.session.store.catalog;
         let body = self.session.body(at);
-        tuple_in(self.alloc, catalog, number, segment, tid, body)
+        tuple_in(self.alloc, catalog, number, segment, tid, body, row)
     }
 }
 
-/// The tuple of the relation of this number, in this segment, that a body is of. Where it is of none,
-/// that is damage at the tuple: only a device that doesn't tell its contents has such a body.
+/// The tuple of the relation `number`, in this segment, that a body is of, in the memory of `row`.
+/// If it is of none, that is damage at the tuple: only a device that doesn't tell its contents has
+/// such a body.
 fn tuple_in(
     alloc: Global,
     catalog: &Catalog,
@@ -181,6 +191,7 @@ fn tuple_in(
     segment: u8,
     tid: Tid,
     body: &[u8],
+    mut row: Tuple,
 ) -> Result<Tuple, CallError>
     requires { is_some (relation_at catalog.now.listing number) ≡ true }
     ensures { (relation : AnyEntry) → relation_at catalog.now.listing number ≡ Some relation
@@ -191,8 +202,8 @@ fn tuple_in(
     let Some(bytes) = spelled_in(catalog, number, fields, body) else {
         return Err(CallError::Damaged(Place::Tuple(segment, tid)));
     };
-    match made_of(alloc, fields, bytes) {
-        Ok(tuple) => Ok(tuple),
+    match made_into(alloc, fields, bytes, &mut row) {
+        Ok(()) => Ok(row),
         Err(_) => Err(CallError::NoMemory),
     }
 }

@@ -13,15 +13,14 @@ use rss_session::Session;
 use std::alloc::Global;
 
 /// Opens the store that a device holds, with room in memory for so many of its pages, or for all of
-/// them where these are fewer. Room for all that it ever keeps of them is taken here.
+/// them if these are fewer. Room for all that it ever keeps of them is taken here.
 ///
 /// It syncs the device and reads the whole store. Then it brings the tables of the last checkpoint
-/// to those that the log recovers, and takes a checkpoint of them, unless the store is at rest; then
-/// it writes nothing. No transaction is open.
+/// to those that the log recovers, and takes a checkpoint of them, unless the store is at rest;
+/// then it writes nothing. No transaction is open.
 ///
-/// The device is handed back where it holds no store, or one whose positions of the log are used up:
-/// that is answered as want of memory.
-/// Which fault comes where is said at `rss_store::open`.
+/// The device is handed back if it holds no store, or one whose positions of the log are used up:
+/// that is answered as want of memory. Which fault comes when is said at `rss_store::open`.
 pub fn open<D: Device>(alloc: Global, device: D, frames: u32) -> Result<Rss<Buffer<D>>, Unopened<D>>
     requires least { LEAST_FRAMES ≤ frames }
     requires most { frames ≤ MOST_FRAMES }

@@ -1,5 +1,5 @@
 // Scans.
-ghost use Rattle.std.specs.Prelude.{◌≡◌, ◌<◌, true, false, Some, None, Err, is_some, option_map, IsSome, IfOk, IfErr, OnOk};
+ghost use Rattle.std.specs.Prelude.{◌≡◌, ◌<◌, [], true, false, Some, None, Err, is_some, option_map, IsSome, IfOk, IfErr, OnOk, OnErr};
 ghost use Rattle.std.specs.Prelude.{IsErrOf};
 ghost use Rattle.rss_base.specs.Listings.{IsNumberOf, relation_at};
 ghost use Rattle.rss_base.specs.declared.answer.CallError.TheVariants.{Refused, NoMemory};
@@ -11,6 +11,7 @@ ghost use Rattle.rss_stored.specs.Calls.{calls_most};
 ghost use Rattle.rss_rsi.specs.Looking.{EndsEach};
 ghost use Rattle.rss_rsi.specs.Placing.{MayCost};
 ghost use Rattle.rss_rsi.specs.Linking.{TestEnds};
+ghost use Rattle.rss_rsi.specs.Replies.{as_row};
 ghost use Rattle.rss_rsi.specs.Scanning.{FindsBehind, FindsMember, LooksBehind, FindsNext, GoesAlongImage, IsNextOf, ReadEnds, CostsLevels, lost_test};
 ghost use Rattle.rss_scan.specs.Scans.{cursor_of};
 ghost use Rattle.rss_session.specs.Looks.{CostsNothing};
@@ -22,6 +23,7 @@ use rss_base::{
 };
 use rss_buffer::Saving;
 use rss_scan::{Cursor, Path};
+use std::mem::replace;
 
 impl<S: Saving> Rss<S> {
     ghost use Rattle.rss_stored.specs.Calls.{IsCallOf};
@@ -82,11 +84,12 @@ impl<S: Saving> Rss<S> {
         Ok(Reply::Number(scan))
     }
 
-    /// Gives the next tuple of a scan with its identifier, or tells that there is none, in the tables
-    /// as they are now: of a relation, the tuple with the least identifier above the one that was given
-    /// last; of an image, that of the next entry; of a link, the one right behind it in the chain. It is
-    /// refused where the tuple that was given last is in that chain no more. It locks nothing more. Where all pages are in memory
-    /// the device is asked for nothing, and they stay there.
+    /// Gives the next tuple of a scan with its identifier, or tells that there is none, in the
+    /// tables as they are now. Of a relation it is the tuple with the least identifier above the
+    /// one that was given last. Of an image it is that of the next entry, and of a link the one
+    /// right after it in the chain. It is refused if the tuple that was given last is in that chain
+    /// no more. It locks nothing more. If all pages are in memory, the device is asked for nothing,
+    /// and they stay there.
     pub fn next(&mut self, transaction: u32, scan: u32) -> Result<Reply, CallError>
         requires few { (view self.old).calls < calls_most }
         ensures did { IsCallOf (view self.old) (view self.new) (Next transaction scan) result }
@@ -94,17 +97,43 @@ impl<S: Saving> Rss<S> {
         ensures costs { CostsLevels (parts_of self.old) (parts_of self.new) transaction scan }
         ensures idle { CostsNothing (session_of self.old) (session_of self.new) }
     {
+        let mut row = Tuple::new(self.alloc);
+        match self.next_into(transaction, scan, &mut row)? {
+            Some(tid) => Ok(Reply::Row(tid, row)),
+            None => Ok(Reply::End),
+        }
+    }
+
+    /// As `next`, with the tuple in the memory of `row`, whose values go. If no tuple is given, `row`
+    /// is left with no values.
+    pub fn next_into(
+        &mut self,
+        transaction: u32,
+        scan: u32,
+        row: &mut Tuple,
+    ) -> Result<Option<Tid>, CallError>
+        requires few { (view self.old).calls < calls_most }
+        ensures did { IsCallOf (view self.old) (view self.new) (Next transaction scan)
+            (as_row result row.new) }
+        ensures untouched { ((view self.old).is_up → ⊥) → self.new ≡ self.old }
+        ensures end { IfOk result (λ found. found ≡ None → row.new ≡ []) }
+        ensures fails { OnErr result (row.new ≡ []) }
+        ensures costs { CostsLevels (parts_of self.old) (parts_of self.new) transaction scan }
+        ensures idle { CostsNothing (session_of self.old) (session_of self.new) }
+    {
+        let old = replace(row, Tuple::new(self.alloc));
         self.ask()?;
         self.session.test_open(transaction)?;
         if self.scans.get(transaction, scan).is_none() {
             return Err(no_scan());
         }
-        match self.find_next(transaction, scan)? {
+        match self.find_next(transaction, scan, old)? {
             Some((key, tid, tuple)) => {
                 self.scans.gave(scan, &key, tid);
-                Ok(Reply::Row(tid, tuple))
+                *row = tuple;
+                Ok(Some(tid))
             }
-            None => Ok(Reply::End),
+            None => Ok(None),
         }
     }
 
@@ -124,11 +153,13 @@ impl<S: Saving> Rss<S> {
         Ok(Reply::Ok)
     }
 
-    /// What a scan of a transaction gives next, with its key. Nothing is changed.
+    /// What a scan of a transaction gives next, with its key; the tuple in the memory of `row`. Nothing is
+    /// changed.
     fn find_next(
         &mut self,
         transaction: u32,
         scan: u32,
+        row: Tuple,
     ) -> Result<Option<(Key, Tid, Tuple)>, CallError>
         requires up { self.old.down ≡ false }
         requires there { IsSome (cursor_of (parts_of self.old).scans transaction scan) }
@@ -153,7 +184,7 @@ impl<S: Saving> Rss<S> {
                 let Some(number) = self.session.store.catalog.find(Kind::Relation, relation) else {
                     return Ok(None);
                 };
-                match self.find_behind(number, after)? {
+                match self.find_behind(number, after, row)? {
                     Some((tid, tuple)) => Ok(Some((Key::new(), tid, tuple))),
                     None => Ok(None),
                 }
@@ -163,7 +194,7 @@ impl<S: Saving> Rss<S> {
                 let Some(number) = self.session.store.catalog.find(Kind::Image, image) else {
                     return Ok(None);
                 };
-                self.find_entry(transaction, scan, number)
+                self.find_entry(transaction, scan, number, row)
             }
             Path::Link(link, parent) => {
                 let (link, parent) = (*link, *parent);
@@ -172,7 +203,7 @@ impl<S: Saving> Rss<S> {
                 let Some(number) = self.session.store.catalog.find(Kind::Link, &link) else {
                     unreachable!()
                 };
-                match self.find_member(&link, number, parent, after)? {
+                match self.find_member(&link, number, parent, after, row)? {
                     Some((tid, tuple)) => Ok(Some((Key::new(), tid, tuple))),
                     None => Ok(None),
                 }
@@ -180,13 +211,14 @@ impl<S: Saving> Rss<S> {
         }
     }
 
-    /// The next entry of a scan that goes along the image of this number, with its tuple. Nothing is
-    /// changed.
+    /// The next entry of a scan that goes along the image `number`, with its tuple in the memory of
+    /// `row`. Nothing is changed.
     fn find_entry(
         &mut self,
         transaction: u32,
         scan: u32,
         number: u8,
+        row: Tuple,
     ) -> Result<Option<(Key, Tid, Tuple)>, CallError>
         requires up { self.old.down ≡ false }
         requires along { GoesAlongImage (parts_of self.old) transaction scan number }
@@ -217,18 +249,20 @@ impl<S: Saving> Rss<S> {
         let relation = self.session.store.catalog.image(number).relation;
         let segment = self.session.store.catalog.relation(relation).segment;
         let at = self.there(relation, segment, tid)?;
-        let tuple = self.tuple_at(relation, segment, tid, at)?;
+        let tuple = self.tuple_at(relation, segment, tid, at, row)?;
         Ok(Some((key, tid, tuple)))
     }
 
-    /// The tuple right behind this one in the chain of a parent, or the first of all, if there is one.
-    /// Nothing is changed. The call that looks for it is refused where that one isn't in the chain.
+    /// The tuple right after this one in the chain of a parent, or the first of all, if there is
+    /// one, in the memory of `row`. Nothing is changed. The call that looks for it is refused if
+    /// that one isn't in the chain.
     fn find_member(
         &mut self,
         link: &Name,
         number: u8,
         parent: Option<Tid>,
         after: Option<Tid>,
+        row: Tuple,
     ) -> Result<Option<(Tid, Tuple)>, CallError>
         requires up { self.old.down ≡ false }
         requires known { IsNumberOf LinkKind (session_of self.old).store.catalog.listing
@@ -252,12 +286,13 @@ impl<S: Saving> Rss<S> {
             return Ok(None);
         };
         let relation = self.session.store.catalog.link(number).child;
-        let tuple = self.read(relation, tid)?;
+        let tuple = self.read(relation, tid, row)?;
         Ok(Some((tid, tuple)))
     }
 
-    /// The tuple with this identifier of the relation of this number, which has one.
-    fn read(&mut self, number: u8, tid: Tid) -> Result<Tuple, CallError>
+    /// The tuple with this identifier of the relation `number`, which has one, in the memory of
+    /// `row`.
+    fn read(&mut self, number: u8, tid: Tid, row: Tuple) -> Result<Tuple, CallError>
         requires up { self.old.down ≡ false }
         requires known { is_some (relation_at (session_of self.old).store.catalog.listing number)
             ≡ true }
@@ -270,15 +305,16 @@ impl<S: Saving> Rss<S> {
     {
         let segment = self.session.store.catalog.relation(number).segment;
         let at = self.there(number, segment, tid)?;
-        self.tuple_at(number, segment, tid, at)
+        self.tuple_at(number, segment, tid, at, row)
     }
 
-    /// The tuple of the relation of this number with the least identifier behind this one, or the least
-    /// of all, if there is one. Nothing is changed.
+    /// The tuple of the relation `number` with the least identifier after this one, or the least of
+    /// all, if there is one, in the memory of `row`. Nothing is changed.
     fn find_behind(
         &mut self,
         number: u8,
         after: Option<Tid>,
+        row: Tuple,
     ) -> Result<Option<(Tid, Tuple)>, CallError>
         requires up { self.old.down ≡ false }
         requires known { is_some (relation_at (session_of self.old).store.catalog.listing number)
@@ -301,7 +337,7 @@ impl<S: Saving> Rss<S> {
             return Ok(None);
         };
         tid_is_spelled(Some(tid));
-        let tuple = self.tuple_at(number, segment, tid, at)?;
+        let tuple = self.tuple_at(number, segment, tid, at, row)?;
         Ok(Some((tid, tuple)))
     }
 }

@@ -58,7 +58,7 @@ impl<S: Saving> Rss<S> {
         Ok(Reply::Ok)
     }
 
-    /// Ends a transaction: its changes are committed. Where it changed nothing, nothing is written.
+    /// Ends a transaction: its changes are committed. If it changed nothing, nothing is written.
     pub fn end(&mut self, transaction: u32) -> Result<Reply, CallError>
         requires few { (view self.old).calls < calls_most }
         ensures did { IsCallOf (view self.old) (view self.new) (End transaction) result }
@@ -94,8 +94,9 @@ impl<S: Saving> Rss<S> {
         Ok(Reply::Ok)
     }
 
-    /// Takes a checkpoint, from which on the log is kept: all pages come to the device. It is refused
-    /// where what is free behind it is less than what is owed to the changes of open transactions.
+    /// Takes a checkpoint, from which on the log is kept: all pages come to the device. It is
+    /// refused if what is free after it is less than what is owed to the changes of open
+    /// transactions.
     pub fn checkpoint(&mut self) -> Result<Reply, CallError>
         requires few { (view self.old).calls < calls_most }
         ensures did { IsCallOf (view self.old) (view self.new) Checkpoint result }

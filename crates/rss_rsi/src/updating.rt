@@ -30,6 +30,7 @@ impl<S: Saving> Rss<S> {
         let number = self.session.admit_tuple(transaction, relation, tuple)?;
         let entry = self.session.store.catalog.relation(number);
         let to = values_of(entry.fields.as_slice(), tuple);
+        let row = Tuple::new(self.alloc);
         let found = self.find(
             transaction,
             number,
@@ -37,6 +38,7 @@ impl<S: Saving> Rss<S> {
             tid,
             Access::Change,
             Some(tuple),
+            row,
         )?;
         let owned = self.find_duplicate(number, &to, Some(tid))?;
         if let Some(why) = owned {

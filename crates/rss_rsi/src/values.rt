@@ -11,7 +11,7 @@ use rss_catalog::Catalog;
 use rss_members::prefix_len;
 use rss_value::encode;
 
-/// How many bytes the blocks of a tuple have at most, where the catalog is sound.
+/// How many bytes the blocks of a tuple have at most, if the catalog is sound.
 const BLOCKS_MOST: usize = 16 * 18;
 
 /// The bytes of the values of a tuple of a relation that has these fields.
@@ -26,8 +26,8 @@ pub(crate) fn values_of(fields: &[FieldDef], tuple: &Tuple) -> Body
     values
 }
 
-/// How many bytes the body of a tuple with these values has, in the relation of this number: its
-/// number stands first, and then the blocks of its links.
+/// How many bytes the body of a tuple with these values has, in the relation `number`: its number
+/// stands first, and then the blocks of its links.
 pub(crate) fn body_len(catalog: &Catalog, number: u8, values: &[u8]) -> u16
     requires short { IsShort values.now }
     ensures may { IsBodyLength result }

@@ -1,10 +1,12 @@
 // How fast the calls are over a relation with an image.
 use crate::{
     FIELD, RELATION, Work, ask, begin, define, end, end_of_batch, insert, next, rate, scan_all,
+    set_value, test_calls,
 };
 use anyhow::{Result, bail};
-use rss_base::{Call, Name, NameList, Reply, Tuple, Value};
-use rss_stored::Engine;
+use rss_base::{Call, Name, NameList, Reply, Tuple};
+use rss_buffer::Saving;
+use rss_rsi::Rss;
 use std::alloc::Global;
 use std::time::Instant;
 
@@ -56,73 +58,98 @@ impl Keys {
 }
 
 /// Defines the image, and the relation beneath it.
-fn define_image<E: Engine>(engine: &mut E, alloc: Global, keys: Keys) -> Result<()> {
-    define(engine, alloc)?;
+fn define_image<S: Saving>(store: &mut Rss<S>, alloc: Global, keys: Keys) -> Result<()> {
+    define(store, alloc)?;
     let mut fields = NameList::new(alloc);
     fields.push(FIELD)?;
     ask(
-        engine,
+        store,
         &Call::MakeImage(IMAGE, RELATION, keys.are_unique(), fields),
     )?;
     Ok(())
 }
 
 /// Inserts in transactions of a batch.
-fn insert_all<E: Engine>(engine: &mut E, alloc: Global, work: Work, keys: Keys) -> Result<()> {
-    begin(engine)?;
+fn insert_all<S: Saving>(store: &mut Rss<S>, alloc: Global, work: Work, keys: Keys) -> Result<()> {
+    let mut row = Tuple::new(alloc);
+    begin(store)?;
     for place in 0..work.tuples {
-        insert(engine, alloc, keys.value(place))?;
-        end_of_batch(engine, place, work)?;
+        insert(store, &mut row, keys.value(place))?;
+        end_of_batch(store, place, work)?;
     }
-    end(engine)
+    end(store)
 }
 
 /// A scan of the image, from a value on or from the first.
-fn open_image<E: Engine>(engine: &mut E, from: Option<Tuple>) -> Result<u32> {
-    match ask(engine, &Call::OpenImage(1, IMAGE, from))? {
-        Reply::Number(scan) => Ok(scan),
+fn open_image<S: Saving>(store: &mut Rss<S>, from: &Option<Tuple>) -> Result<u32> {
+    test_calls(store)?;
+    match store.open_image(1, &IMAGE, from) {
+        Ok(Reply::Number(scan)) => Ok(scan),
         other => bail!("a scan was answered {other:?}"),
     }
 }
 
-/// Looks each value up, by a scan from it on.
-fn look_up_all<E: Engine>(engine: &mut E, alloc: Global, work: Work, keys: Keys) -> Result<()> {
-    begin(engine)?;
-    for place in 0..work.tuples {
-        let value = i64::from(keys.value(place));
-        let scan = open_image(engine, Some(Tuple::single(alloc, Value::Int(value))?))?;
-        if next(engine, scan)? != Some(value) {
-            bail!("{value} isn't found");
-        }
-        ask(engine, &Call::CloseScan(1, scan))?;
+fn close<S: Saving>(store: &mut Rss<S>, scan: u32) -> Result<()> {
+    test_calls(store)?;
+    match store.close_scan(1, scan) {
+        Ok(_) => Ok(()),
+        Err(error) => bail!("the end of a scan was answered {error:?}"),
     }
-    end(engine)
+}
+
+/// The tuple that stands first from a value on must have it. `from` is used for the key, and `row` for
+/// the tuple.
+fn look_up<S: Saving>(
+    store: &mut Rss<S>,
+    from: &mut Option<Tuple>,
+    row: &mut Tuple,
+    value: i64,
+) -> Result<()> {
+    if let Some(key) = from {
+        set_value(key, value)?;
+    }
+    let scan = open_image(store, from)?;
+    if next(store, scan, row)? != Some(value) {
+        bail!("{value} isn't found");
+    }
+    close(store, scan)
+}
+
+/// Looks each value up, by a scan from it on.
+fn look_up_all<S: Saving>(store: &mut Rss<S>, alloc: Global, work: Work, keys: Keys) -> Result<()> {
+    let mut from = Some(Tuple::new(alloc));
+    let mut row = Tuple::new(alloc);
+    begin(store)?;
+    for place in 0..work.tuples {
+        look_up(store, &mut from, &mut row, i64::from(keys.value(place)))?;
+    }
+    end(store)
 }
 
 /// Goes through the whole image.
-fn scan_image<E: Engine>(engine: &mut E, work: Work) -> Result<()> {
-    begin(engine)?;
-    let scan = open_image(engine, None)?;
-    scan_all(engine, scan, work)?;
-    end(engine)
+fn scan_image<S: Saving>(store: &mut Rss<S>, alloc: Global, work: Work) -> Result<()> {
+    begin(store)?;
+    let scan = open_image(store, &None)?;
+    scan_all(store, alloc, scan, work)?;
+    end(store)
 }
 
 /// Fills a relation with an image, looks each tuple up and scans all of them, and prints how many a
 /// second it makes of each.
-pub(crate) fn measure_image<E: Engine>(
+pub(crate) fn measure_image<S: Saving>(
     rt: &HostRuntime,
-    engine: &mut E,
+    store: &mut Rss<S>,
     work: Work,
     keys: Keys,
 ) -> Result<()> {
     let alloc = rt.alloc();
-    define_image(engine, alloc, keys)?;
+    define_image(store, alloc, keys)?;
     let start = Instant::now(rt)?;
-    insert_all(engine, alloc, work, keys)?;
+    insert_all(store, alloc, work, keys)?;
     let inserted = Instant::now(rt)?;
-    look_up_all(engine, alloc, work, keys)?;
+    look_up_all(store, alloc, work, keys)?;
     let found = Instant::now(rt)?;
-    scan_image(engine, work)?;
+    scan_image(store, alloc, work)?;
     let scanned = Instant::now(rt)?;
     println!(rt;
         "rss-{} {} {} {}",

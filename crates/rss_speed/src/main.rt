@@ -1,20 +1,24 @@
-//! How fast the engine's calls are, made in-process over a file: commits of one insert, inserts and
-//! updates in transactions of a batch with their commits, fetches, and a scan; and, over a relation with
-//! an image, inserts, look-ups and a scan. `examples/peers.sh` runs it beside other engines.
+//! How fast the engine's calls are, made in-process over a file. It measures commits of one insert,
+//! inserts and updates in transactions of a batch with their commits, fetches, and a scan. Over a
+//! relation with an image it measures inserts, look-ups and a scan. `examples/peers.sh` runs it
+//! beside other engines.
 #![tactic(auto)]
 
 mod images;
 mod tuples;
 
-ghost use Rattle.std.specs.Prelude.{◌≡◌, true};
+ghost use Rattle.std.specs.Prelude.{◌≡◌, ◌<◌, true, OnOk};
 ghost use Rattle.rss_model.specs.Defining.{DefinesNames, LocksGranule};
+ghost use Rattle.rss_rsi.specs.Parts.{view};
+ghost use Rattle.rss_stored.specs.Calls.{calls_most};
 
 use crate::images::{Keys, measure_image};
 use crate::tuples::measure_tuples;
 use anyhow::{Result, bail, ensure};
 use rss_base::{Call, FieldDef, FieldKind, Fields, Name, Reply, Tid, Tuple, Value};
+use rss_buffer::Saving;
 use rss_device::FileDevice;
-use rss_rsi::{MOST_FRAMES, format, open};
+use rss_rsi::{MOST_FRAMES, Rss, format, open};
 use rss_stored::{CALLS_MOST, Engine};
 use std::alloc::Global;
 use std::env;
@@ -49,13 +53,13 @@ pub(crate) struct Work {
 /// What is measured.
 #[derive(Clone, Copy)]
 enum Measure {
-    /// Tuples alone, with so many commits of one insert first.
+    /// Only tuples, with so many commits of one insert first.
     Tuples(u32),
     /// A relation with an image, whose keys are these.
     Image(Keys),
 }
 
-/// Makes a call, where the engine may be asked for one more.
+/// Makes a call, if the engine may be asked for one more.
 pub(crate) fn ask<E: Engine>(engine: &mut E, call: &Call) -> Result<Reply>
     requires names { DefinesNames call.now }
     requires granule { LocksGranule call.now }
@@ -90,10 +94,27 @@ pub(crate) fn end<E: Engine>(engine: &mut E) -> Result<()> {
     Ok(())
 }
 
-pub(crate) fn insert<E: Engine>(engine: &mut E, alloc: Global, value: u32) -> Result<Tid> {
-    let tuple = Tuple::single(alloc, Value::Int(i64::from(value)))?;
-    match ask(engine, &Call::Insert(1, RELATION, tuple))? {
-        Reply::Tid(tid) => Ok(tid),
+/// Tests that the store may be asked for one more call.
+pub(crate) fn test_calls<S: Saving>(store: &Rss<S>) -> Result<()>
+    ensures { OnOk result ((view store.now).calls < calls_most) }
+{
+    ensure!(store.calls() < CALLS_MOST, "too many calls");
+    Ok(())
+}
+
+/// Makes it the tuple of one INT.
+pub(crate) fn set_value(tuple: &mut Tuple, value: i64) -> Result<()> {
+    tuple.clear();
+    tuple.push(Value::Int(value))?;
+    Ok(())
+}
+
+/// Puts a tuple of this value, in the memory of `row`.
+pub(crate) fn insert<S: Saving>(store: &mut Rss<S>, row: &mut Tuple, value: u32) -> Result<Tid> {
+    set_value(row, i64::from(value))?;
+    test_calls(store)?;
+    match store.insert(1, &RELATION, row) {
+        Ok(Reply::Tid(tid)) => Ok(tid),
         other => bail!("an insert was answered {other:?}"),
     }
 }
@@ -116,19 +137,30 @@ pub(crate) fn one_value(tuple: &Tuple) -> Result<i64> {
     }
 }
 
-/// The next tuple's value, if there is one.
-pub(crate) fn next<E: Engine>(engine: &mut E, scan: u32) -> Result<Option<i64>> {
-    match ask(engine, &Call::Next(1, scan))? {
-        Reply::Row(_, tuple) => Ok(Some(one_value(&tuple)?)),
-        Reply::End => Ok(None),
-        other => bail!("a scan was answered {other:?}"),
+/// The next tuple's value, if there is one. The tuple comes into the memory of `row`.
+pub(crate) fn next<S: Saving>(
+    store: &mut Rss<S>,
+    scan: u32,
+    row: &mut Tuple,
+) -> Result<Option<i64>> {
+    test_calls(store)?;
+    match store.next_into(1, scan, row) {
+        Ok(Some(_)) => Ok(Some(one_value(row)?)),
+        Ok(None) => Ok(None),
+        Err(error) => bail!("a scan was answered {error:?}"),
     }
 }
 
 /// Goes through as many tuples of a scan as there are to be.
-pub(crate) fn scan_all<E: Engine>(engine: &mut E, scan: u32, work: Work) -> Result<()> {
+pub(crate) fn scan_all<S: Saving>(
+    store: &mut Rss<S>,
+    alloc: Global,
+    scan: u32,
+    work: Work,
+) -> Result<()> {
+    let mut row = Tuple::new(alloc);
     for _ in 0..work.tuples {
-        if next(engine, scan)?.is_none() {
+        if next(store, scan, &mut row)?.is_none() {
             bail!("the scan ends early");
         }
     }

@@ -1,10 +1,12 @@
 // How fast the calls are over a relation without images.
 use crate::{
-    RELATION, Work, ask, begin, define, end, end_of_batch, insert, one_value, rate, scan_all,
+    RELATION, Work, begin, define, end, end_of_batch, insert, one_value, rate, scan_all, set_value,
+    test_calls,
 };
 use anyhow::{Result, bail};
-use rss_base::{Call, Reply, Tid, Tuple, Value};
-use rss_stored::Engine;
+use rss_base::{Reply, Tid, Tuple};
+use rss_buffer::Saving;
+use rss_rsi::Rss;
 use std::alloc::Global;
 use std::time::Instant;
 
@@ -17,110 +19,125 @@ const UPDATES: u32 = 200_000;
 /// From one tuple that is fetched or changed to the next.
 const STEP: usize = 7919;
 
-fn fetch<E: Engine>(engine: &mut E, tid: Tid) -> Result<i64> {
-    match ask(engine, &Call::Fetch(1, RELATION, tid))? {
-        Reply::Tuple(tuple) => one_value(&tuple),
-        other => bail!("a fetch was answered {other:?}"),
+fn fetch<S: Saving>(store: &mut Rss<S>, tid: Tid, row: &mut Tuple) -> Result<i64> {
+    test_calls(store)?;
+    match store.fetch_into(1, &RELATION, tid, row) {
+        Ok(()) => one_value(row),
+        Err(error) => bail!("a fetch was answered {error:?}"),
     }
 }
 
-fn update<E: Engine>(engine: &mut E, alloc: Global, tid: Tid, value: u32) -> Result<()> {
-    let tuple = Tuple::single(alloc, Value::Int(i64::from(value)))?;
-    ask(engine, &Call::Update(1, RELATION, tid, tuple))?;
-    Ok(())
+/// Gives a tuple this value, by way of `row`.
+fn update<S: Saving>(store: &mut Rss<S>, tid: Tid, row: &mut Tuple, value: u32) -> Result<()> {
+    set_value(row, i64::from(value))?;
+    test_calls(store)?;
+    match store.update(1, &RELATION, tid, row) {
+        Ok(_) => Ok(()),
+        Err(error) => bail!("an update was answered {error:?}"),
+    }
 }
 
 /// Commits of one insert.
-fn commit_each<E: Engine>(
-    engine: &mut E,
+fn commit_each<S: Saving>(
+    store: &mut Rss<S>,
     alloc: Global,
     commits: u32,
     tids: &mut Vec<Tid>,
 ) -> Result<()> {
+    let mut row = Tuple::new(alloc);
     for value in 0..commits {
-        begin(engine)?;
-        tids.push(insert(engine, alloc, value)?)?;
-        end(engine)?;
+        begin(store)?;
+        tids.push(insert(store, &mut row, value)?)?;
+        end(store)?;
     }
     Ok(())
 }
 
 /// Inserts in transactions of a batch.
-fn insert_all<E: Engine>(
-    engine: &mut E,
+fn insert_all<S: Saving>(
+    store: &mut Rss<S>,
     alloc: Global,
     commits: u32,
     work: Work,
     tids: &mut Vec<Tid>,
 ) -> Result<()> {
-    begin(engine)?;
+    let mut row = Tuple::new(alloc);
+    begin(store)?;
     for value in commits..work.tuples {
-        tids.push(insert(engine, alloc, value)?)?;
-        end_of_batch(engine, value, work)?;
+        tids.push(insert(store, &mut row, value)?)?;
+        end_of_batch(store, value, work)?;
     }
-    end(engine)
+    end(store)
 }
 
 /// Fetches of tuples that are far apart.
-fn fetch_some<E: Engine>(engine: &mut E, tids: &[Tid]) -> Result<()> {
-    begin(engine)?;
+fn fetch_some<S: Saving>(store: &mut Rss<S>, alloc: Global, tids: &[Tid]) -> Result<()> {
+    let mut row = Tuple::new(alloc);
+    begin(store)?;
     let mut place = 0;
     for _ in 0..FETCHES {
         let Some(tid) = tids.get(place) else {
             bail!("no tuples");
         };
-        let _ = fetch(engine, *tid)?;
+        let _ = fetch(store, *tid, &mut row)?;
         place = (place + STEP) % tids.len().max(1);
     }
-    end(engine)
+    end(store)
 }
 
 /// Updates of tuples that are far apart, in transactions of a batch.
-fn update_some<E: Engine>(engine: &mut E, alloc: Global, work: Work, tids: &[Tid]) -> Result<()> {
-    begin(engine)?;
+fn update_some<S: Saving>(
+    store: &mut Rss<S>,
+    alloc: Global,
+    work: Work,
+    tids: &[Tid],
+) -> Result<()> {
+    let mut row = Tuple::new(alloc);
+    begin(store)?;
     let mut place = 0;
     for value in 0..UPDATES {
         let Some(tid) = tids.get(place) else {
             bail!("no tuples");
         };
-        update(engine, alloc, *tid, value)?;
-        end_of_batch(engine, value, work)?;
+        update(store, *tid, &mut row, value)?;
+        end_of_batch(store, value, work)?;
         place = (place + STEP) % tids.len().max(1);
     }
-    end(engine)
+    end(store)
 }
 
 /// Goes through the whole relation.
-fn scan_relation<E: Engine>(engine: &mut E, work: Work) -> Result<()> {
-    begin(engine)?;
-    match ask(engine, &Call::OpenRelation(1, RELATION))? {
-        Reply::Number(scan) => scan_all(engine, scan, work)?,
+fn scan_relation<S: Saving>(store: &mut Rss<S>, alloc: Global, work: Work) -> Result<()> {
+    begin(store)?;
+    test_calls(store)?;
+    match store.open_relation(1, &RELATION) {
+        Ok(Reply::Number(scan)) => scan_all(store, alloc, scan, work)?,
         other => bail!("a scan was answered {other:?}"),
     }
-    end(engine)
+    end(store)
 }
 
-/// Does the work over an engine, and prints how many a second it makes of commits, inserts, fetches and
+/// Does the work over a store, and prints how many a second it makes of commits, inserts, fetches and
 /// updates, and of the tuples of a scan.
-pub(crate) fn measure_tuples<E: Engine>(
+pub(crate) fn measure_tuples<S: Saving>(
     rt: &HostRuntime,
-    engine: &mut E,
+    store: &mut Rss<S>,
     commits: u32,
     work: Work,
 ) -> Result<()> {
     let alloc = rt.alloc();
-    define(engine, alloc)?;
+    define(store, alloc)?;
     let mut tids = Vec::new(alloc);
     let start = Instant::now(rt)?;
-    commit_each(engine, alloc, commits, &mut tids)?;
+    commit_each(store, alloc, commits, &mut tids)?;
     let committed = Instant::now(rt)?;
-    insert_all(engine, alloc, commits, work, &mut tids)?;
+    insert_all(store, alloc, commits, work, &mut tids)?;
     let inserted = Instant::now(rt)?;
-    fetch_some(engine, tids.as_slice())?;
+    fetch_some(store, alloc, tids.as_slice())?;
     let fetched = Instant::now(rt)?;
-    update_some(engine, alloc, work, tids.as_slice())?;
+    update_some(store, alloc, work, tids.as_slice())?;
     let updated = Instant::now(rt)?;
-    scan_relation(engine, work)?;
+    scan_relation(store, alloc, work)?;
     let scanned = Instant::now(rt)?;
     println!(rt;
         "rss {} {} {} {} {}",

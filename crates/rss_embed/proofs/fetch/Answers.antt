@@ -1,4 +1,4 @@
 use Rattle.rss_embed.proofs.fetch.Goals as goal
 
-pub returns-in-Tuple : goal.returns-in-Tuple
-returns-in-Tuple g c = rw c.in-Tuple.is at c.in_ok-other.ensures
+pub returns : goal.returns
+returns g c = λ up told state shown. (c.in_ok-fetch_into.ensures.did.outcome up).answered told state shown

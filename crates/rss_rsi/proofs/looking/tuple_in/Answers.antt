@@ -16,13 +16,13 @@ returns-in_default c = λ relation at.
     subst (λ (r : RelationEntry). ComesOf c.args.catalog.now.listing c.args.number (kinds r.fields) place c.args.body.now (Err (Damaged place))) (same_Some _ _ (sym c.relation.ensures.is ∙ at))
     (refl, of_none ((rw c.as_slice-fields.ensures at c.spelled_in.ensures.none) c.in_default.is))
 
-pub made_of-requires : goal.made_of-requires
-made_of-requires c = c.in-Some.ensures.some.spelled
+pub made_into-requires : goal.made_into-requires
+made_into-requires c = c.in-Some.ensures.some.spelled
 
 pub returns-in-Ok : goal.returns-in-Ok
 returns-in-Ok c = λ relation at.
     let place = TuplePlace c.args.segment c.args.tid in
-    subst (λ (r : RelationEntry). ComesOf c.args.catalog.now.listing c.args.number (kinds r.fields) place c.args.body.now (Ok c.in-Ok.tuple)) (same_Some _ _ (sym c.relation.ensures.is ∙ at))
+    subst (λ (r : RelationEntry). ComesOf c.args.catalog.now.listing c.args.number (kinds r.fields) place c.args.body.now (Ok c.made_into.new.into)) (same_Some _ _ (sym c.relation.ensures.is ∙ at))
     (rw c.as_slice-fields.ensures at (read_of c.in-Some.ensures.some c.in-Ok.ensures.is c.in-Ok.ensures.only))
 
 pub returns-in-Err : goal.returns-in-Err
