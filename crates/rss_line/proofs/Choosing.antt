@@ -107,7 +107,7 @@ unpick true A B first second (inl a) = first refl a
 unpick true A B first second (inr y) = second y
 unpick false A B first second y = second y
 
-unchoose : {T : Type 0} (rows : List (Row T)) (word : List ℕ) (words : List (List ℕ)) (x : T) → chosen rows word words x → OneOf rows (word ∷ words) x
+pub unchoose : {T : Type 0} (rows : List (Row T)) (word : List ℕ) (words : List (List ℕ)) (x : T) → chosen rows word words x → OneOf rows (word ∷ words) x
 unchoose [] word words x form = form
 unchoose (row ∷ rows) word words x form = unpick (bytes_eq row.word word) (row.form words x) (chosen rows word words x)
     (λ is here. inl (words, ap (λ w. w ∷ words) (sym ((bytes_eq-Decides row.word word).0 is)), here))

@@ -22,3 +22,5 @@ mod Draws
 mod Parts
 mod Counts
 mod Generated
+mod Skipped
+mod Owned

@@ -4,3 +4,4 @@ pub mod Named
 pub mod Reads
 pub mod Once
 pub mod Draws
+pub mod Owners

@@ -177,6 +177,11 @@ abbrev pub HasLength : List ℕ → Result ℕ LineFault → Type 0
 HasLength bytes (Ok n) = (text : List ℕ) × (rest : List ℕ) × ReadsText bytes rest (Ok text) × (n ≡ length text)
 HasLength bytes (Err fault) = ReadsText bytes [] (Err fault)
 
+-- a text is skipped, and its closing quote
+abbrev pub SkipsText : List ℕ → List ℕ → Result (Unit {0}) LineFault → Type 0
+SkipsText old new (Ok done) = (text : List ℕ) × ReadsText old new (Ok text)
+SkipsText old new (Err fault) = ReadsText old new (Err fault)
+
 -- ---- a choice
 
 -- behind this word, these words are one of the rows

@@ -17,7 +17,7 @@ fn with_digit(number: u64, digit: u8) -> Option<u64>
     }
 }
 
-/// The number of these digits, where it is below 2^64.
+/// The number of these digits, if it is below 2^64.
 fn number_of(digits: &[u8]) -> Option<u64>
     ensures { SomeIff result
         (AllDigits 10 digits.now × (digits_value 10 digits.now < 2 ^ 64))

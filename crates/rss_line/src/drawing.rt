@@ -38,7 +38,7 @@ impl Step {
     }
 }
 
-/// The state behind a draw.
+/// The state after a draw.
 pub fn next_state(state: u64) -> u64
     ensures { result ≡ next_state state }
 {
@@ -53,7 +53,7 @@ pub fn drawn(limit: u64, state: u64) -> u64
     (state >> 33) % limit
 }
 
-/// The state behind so many draws.
+/// The state after so many draws.
 fn state_after(state: u64, draws: u64) -> u64
     ensures { result ≡ iterate next_state draws state }
 {

@@ -12,11 +12,11 @@ pub const MOST_EMPLOYEES: u32 = 100_000;
 /// How many lines a script has before those of its employees.
 const OPENING_LINES: u64 = 19;
 
-/// How many it has behind them.
+/// How many it has after them.
 const CLOSING_LINES: u64 = 9;
 
-/// Line `index` of the script that is generated from this number, with so many employees, without
-/// its end. The lines are counted from 0.
+/// Line `index` of the script that is generated from `number`, with so many employees, without its
+/// end. The lines are counted from 0.
 pub fn generate(
     alloc: Global,
     number: u64,
@@ -197,8 +197,8 @@ fn line_of_employee(
     }
 }
 
-/// A line of an employee behind those that insert and connect it, by the state behind the draw of
-/// its department.
+/// A line of an employee after those that insert and connect it, by the state after the draw of its
+/// department.
 fn line_behind(alloc: Global, employee: u32, department: u64, line: u64) -> Result<Text, AllocError>
     ensures { (count state : ℕ)
         → department ≡ department_state state

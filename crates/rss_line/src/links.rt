@@ -38,7 +38,7 @@ impl<'a> Reader<'a> {
         self.spot_behind(names, word)
     }
 
-    /// A spot, and before it the parent of the chain where the link has parents.
+    /// A spot, and before it the parent of the chain if the link has parents.
     fn place(&mut self, names: &Names) -> Result<(Option<Tid>, Spot), LineFault>
         ensures reads { ReadsWords (PlaceForm names.now.variables) self.old result }
         ensures memory { NeedsNoMemory result }

@@ -35,7 +35,7 @@ fn read_from_zero(digits: &[u8]) -> Option<i64>
     0_i64.checked_add_unsigned(read_decimal(digits)?)
 }
 
-/// The bytes behind a minus, if the word begins with one.
+/// The bytes after a minus, if the word begins with one.
 fn behind_minus(word: &[u8]) -> Option<&[u8]>
     ensures { IsBehindMinus word.now result }
 {
@@ -105,7 +105,7 @@ pub fn read_tid_in(word: &str, names: &Names) -> Option<Tid>
 }
 
 /// The number of a scan or a save point.
-fn read_count(word: &str) -> Option<u32>
+pub fn read_count(word: &str) -> Option<u32>
     ensures { ReadsAs (IsNumber word.now) result }
 {
     let number = read_below(NUMBER_LIMIT, word.as_bytes())?;

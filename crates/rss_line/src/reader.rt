@@ -18,7 +18,7 @@ fn count_spaces(bytes: &[u8]) -> usize
     bytes.iter().take_while(|byte| **byte == b' ').count()
 }
 
-/// Whether behind its spaces a line is over: where it ends, or a comment begins.
+/// Whether a line is over after its spaces: if it ends there, or a comment begins.
 fn is_over(bytes: &[u8]) -> bool
     ensures { IsTrue result ↔ IsOver bytes.now }
 {
@@ -110,7 +110,7 @@ impl<'a> Reader<'a> {
         }
     }
 
-    /// What was read, where no word is left.
+    /// What was read, if no word is left.
     pub(crate) fn ended<T: Drop>(&self, read: T) -> Result<T, LineFault>
         ensures reads { ReadsWords (Last read) self.now result }
         ensures memory { NeedsNoMemory result }

@@ -20,7 +20,7 @@ pub enum Line {
 /// At most so many bytes of a line, without its end.
 pub const LINE_LIMIT: usize = 8192;
 
-/// Reads a line, without its end, where the variables stand for these things.
+/// Reads a line, without its end, with variables that stand for these things.
 pub fn read_line(alloc: Global, line: &[u8], names: &Names) -> Result<Line, LineFault>
     ensures blank { result ≡ Ok Line.Blank → IsBlank line.now }
     ensures call { (bind : Option Name) (call : Call)

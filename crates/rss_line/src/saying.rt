@@ -9,7 +9,7 @@ use crate::word::append;
 use rss_base::{Item, Kind, LimitKind, Place, Refusal, Reply, Space};
 use std::alloc::AllocError;
 
-/// Appends the line of an answer, with its end. Where memory runs out, a front of it may be there.
+/// Appends the line of an answer, with its end. If memory runs out, a front of it may be there.
 pub fn say(answer: &Result<Reply, Refusal>, into: &mut Vec<u8>) -> Result<(), AllocError>
     ensures { Appends (answer_line answer.now) into.old into.new result }
 {
@@ -140,7 +140,7 @@ fn limit_word(limit: LimitKind) -> &'static str
     }
 }
 
-/// Appends the line of a device that is not a store, with its end. Where memory runs out, a front of
+/// Appends the line of a device that is not a store, with its end. If memory runs out, a front of
 /// it may be there.
 pub fn say_not_a_store(place: Place, into: &mut Vec<u8>) -> Result<(), AllocError>
     ensures { Appends (not_a_store_line place) into.old into.new result }
@@ -149,7 +149,7 @@ pub fn say_not_a_store(place: Place, into: &mut Vec<u8>) -> Result<(), AllocErro
 }
 
 /// Appends the line of a device whose layout is sound, and whose pages are no store, with its end.
-/// Where memory runs out, a front of it may be there.
+/// If memory runs out, a front of it may be there.
 pub fn say_damaged(place: Place, into: &mut Vec<u8>) -> Result<(), AllocError>
     ensures { Appends (damaged_line place) into.old into.new result }
 {

@@ -48,7 +48,7 @@ fn text_length(bytes: &[u8]) -> Result<usize, LineFault>
 
 impl<'a> Reader<'a> {
     /// The value that stands without quotes.
-    fn plain_value(&mut self) -> Result<Value, LineFault>
+    pub(crate) fn plain_value(&mut self) -> Result<Value, LineFault>
         ensures reads { ReadsWord IsPlainValue self.old self.new result }
         ensures memory { NeedsNoMemory result }
     {
@@ -56,7 +56,7 @@ impl<'a> Reader<'a> {
     }
 
     /// Whether a quote is next, which is then read.
-    fn opens_text(&mut self) -> bool
+    pub(crate) fn opens_text(&mut self) -> bool
         ensures { ReadsQuote self.old self.new result }
     {
         if let [b'"', rest @ ..] = self.rest {
@@ -67,8 +67,8 @@ impl<'a> Reader<'a> {
         }
     }
 
-    /// The next byte of a text: two quotes are one byte, and one alone ends the text.
-    fn text_byte(&mut self) -> Result<Option<u8>, LineFault>
+    /// The next byte of a text: two quotes are one byte, and a single one ends the text.
+    pub(crate) fn text_byte(&mut self) -> Result<Option<u8>, LineFault>
         ensures { ReadsByte self.old self.new result }
     {
         let (byte, rest) = match self.rest {
@@ -81,8 +81,8 @@ impl<'a> Reader<'a> {
         Ok(byte)
     }
 
-    /// The bytes of the text whose opening quote was read, up to its closing quote, where no quote
-    /// stands in it. Where one does, nothing is read.
+    /// The bytes of the text whose opening quote was read, up to its closing quote, if no quote
+    /// stands in it. If one does, nothing is read.
     fn unquoted(&mut self) -> Option<&'a [u8]>
         ensures { ReadsUnquoted self.old self.new result }
     {
@@ -139,8 +139,8 @@ impl<'a> Reader<'a> {
         }
     }
 
-    /// The values up to the line's end. Their tuple takes one allocation, where they are no more
-    /// than a relation has fields.
+    /// The values up to the line's end. Their tuple takes one allocation, if they are no more than
+    /// a relation has fields.
     pub(crate) fn values(&mut self, alloc: Global) -> Result<Tuple, LineFault>
         ensures { ReadsWords AreValues self.old result }
     {
