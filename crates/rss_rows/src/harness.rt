@@ -26,21 +26,6 @@ const COMMIT: &[u8] = b"begin 1\ninsert 1 r 8\nend 1\n";
 /// The commit with a checkpoint behind it, which brings the tuple from the log to the pages.
 const SAVED: &[u8] = b"begin 1\ninsert 1 r 8\nend 1\ncheckpoint\n";
 
-/// Two commits and a checkpoint: an image, and two tuples of one key.
-const IMAGED: &[u8] = b"image i r a\nbegin 1\ninsert 1 r 8\ninsert 1 r 8\nend 1\ncheckpoint\n";
-
-/// The same with a unary link: 0.1 stands behind 0.0.
-const CHAINED: &[u8] = b"\
-link l r
-begin 1
-insert 1 r 8
-insert 1 r 8
-connect 1 l 0.0 first
-connect 1 l 0.1 last
-end 1
-checkpoint
-";
-
 pub(crate) const PROBE: &[u8] = b"begin 1\nfetch 1 r 0.0\n";
 
 /// What the probe gets where nothing is defined, where no commit of a tuple was made, and where one
@@ -70,14 +55,6 @@ pub(crate) fn assert_script<D: Device + Drop, C: Debug + Copy>(
     assert_same(&status, &Status::Ok, case)?;
     assert_same_slices(replies.as_slice(), row.replies, case)?;
     Ok(device)
-}
-
-/// Runs the script of each row to its end over a small store without tuples, and it gets its replies.
-pub(crate) fn assert_rows(alloc: Global, rows: &[Row]) -> Result<(), Fail> {
-    for (number, row) in rows.iter().enumerate() {
-        assert_script(alloc, store_with_r(alloc, SMALL)?, row, WHOLE, number)?;
-    }
-    Ok(())
 }
 
 /// Runs the probe over a store, and it gets these replies.
@@ -150,24 +127,6 @@ pub(crate) fn store_with_r(alloc: Global, slots: u32) -> Result<MemDevice, Fail>
 /// The pages of a small store at rest with one tuple in `r`, whose value is 8.
 pub(crate) fn store_with_tuple(alloc: Global) -> Result<Vec<Page>, Fail> {
     let device = store_after(alloc, store_with_r(alloc, SMALL)?, SAVED)?;
-    Ok(copy_of_pages(alloc, &device)?)
-}
-
-/// The same where the log alone has the tuple.
-pub(crate) fn store_with_log(alloc: Global) -> Result<Vec<Page>, Fail> {
-    let device = store_after(alloc, store_with_r(alloc, SMALL)?, COMMIT)?;
-    Ok(copy_of_pages(alloc, &device)?)
-}
-
-/// The pages of a small store at rest with an image and two tuples, whose value is 8.
-pub(crate) fn store_with_image(alloc: Global) -> Result<Vec<Page>, Fail> {
-    let device = store_after(alloc, store_with_r(alloc, SMALL)?, IMAGED)?;
-    Ok(copy_of_pages(alloc, &device)?)
-}
-
-/// The pages of a small store at rest with a link and two tuples in its chain, whose value is 8.
-pub(crate) fn store_with_chain(alloc: Global) -> Result<Vec<Page>, Fail> {
-    let device = store_after(alloc, store_with_r(alloc, SMALL)?, CHAINED)?;
     Ok(copy_of_pages(alloc, &device)?)
 }
 
