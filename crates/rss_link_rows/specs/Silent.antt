@@ -4,7 +4,8 @@ use Rattle.rss_base.specs.Steps.{PagesView}
 use Rattle.rss_images.specs.Silent.{silent}
 use Rattle.rss_tuple.specs.TupleSteps.{TuplesView, tuples_in}
 
--- every page, over a device that tells nothing, and none that is said to hold anything; one more may be taken
+-- every page is there and in memory, over a device that tells nothing, and none is said to hold anything;
+-- one more may be taken
 abbrev pub no_pages : PagesView
 no_pages = record {
   disk = silent;
@@ -13,7 +14,7 @@ no_pages = record {
   held = λ key. None;
   notes = λ key. None;
   changed = λ key. false;
-  in_memory = λ key. false;
+  in_memory = λ key. true;
   spare = 1;
   asks = 0;
   writes = 0;

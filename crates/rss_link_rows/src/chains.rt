@@ -7,7 +7,7 @@ use rss_link::{Chains, Ends};
 use std::alloc::Global;
 use std::test::Fail;
 
-/// A tuple is put into the chain, right behind another or first, or it is taken out.
+/// A tuple is put into the chain, right after another or first, or it is taken out.
 #[derive(Clone, Copy)]
 enum Step {
     First(u16),

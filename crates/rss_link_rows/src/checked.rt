@@ -69,7 +69,7 @@ fn a_turned_pointer_is_found(rt: HostRuntime) -> Result<(), Fail> {
     Ok(())
 }
 
-/// Two members of a queue, one behind the other.
+/// Two members of a queue, one after another.
 const MEMBERS: [[u8; 16]; 2] = [
     [
         3, 8, 1, NONE, NONE, NONE, NONE, NONE, NONE, 0, 0, 0, 0, 0, 1, 9,

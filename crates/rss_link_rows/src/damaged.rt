@@ -38,7 +38,7 @@ const ASKED: [Asked; 5] = [
     },
 ];
 
-/// A child that is put under a parent, behind another or first, and the tuple that it names.
+/// A child that is put under a parent, after another or first, and the tuple that it names.
 struct Put {
     child: u16,
     parent: u16,

@@ -1,7 +1,7 @@
 // Two links, and bodies in none of their chains.
 use rss_link::Chains;
 
-/// A link of departments to employees, whose blocks stand behind the number of the relation.
+/// A link of departments to employees, whose blocks stand after the number of the relation.
 pub(crate) const WORKS: Chains = Chains {
     link: 1,
     unary: false,
@@ -11,7 +11,7 @@ pub(crate) const WORKS: Chains = Chains {
     child_at: 1,
 };
 
-/// One of members, whose blocks stand behind a byte of another one.
+/// One of members, whose blocks stand after a byte of another one.
 pub(crate) const QUEUE: Chains = Chains {
     link: 2,
     unary: true,

@@ -9,7 +9,7 @@ use std::test::Fail;
 /// The slots of a department's first and last employee.
 type Department = [Option<u8>; 2];
 
-/// The slots of an employee's department, and of the employees before it and behind it.
+/// The slots of an employee's department, and of the employees before it and after it.
 type Employee = [Option<u8>; 3];
 
 const NO_DEPARTMENT: Employee = [None, None, None];
@@ -30,7 +30,7 @@ const BEFORE: Shown = Shown {
     ],
 };
 
-/// Employee 4 is behind employee 1.
+/// Employee 4 is after employee 1.
 const CONNECTED: Shown = Shown {
     department: [Some(1), Some(3)],
     employees: [

@@ -6,13 +6,16 @@ ghost use Rattle.rss_base.specs.declared.key.Space.TheVariants.{Home};
 ghost use Rattle.rss_base.specs.Tids.{IsAfter};
 ghost use Rattle.rss_link_rows.specs.Silent.{untold};
 
-use rss_base::{Body, PAGE_ENTRIES, PageFault, PageKey, Place, Space, Tid};
+use rss_base::{BODY_BYTES, Body, PAGE_ENTRIES, PageFault, PageKey, Place, Space, Tid};
 use rss_tuple::{BodyAt, Tuples};
 use std::alloc::Global;
 use std::test::Fail;
 
 /// How many changes are noted.
 const NOTED: usize = 8;
+
+/// Where the first body of a page may stand.
+const BODIES_AT: u16 = 1040;
 
 /// The tuples in slots 0, 1 and so on of page 0 of each segment, how many of them were fetched, and
 /// the slots of those that got another body, in order.
@@ -22,6 +25,8 @@ pub(crate) struct Untold {
     fetches: u32,
     replaced: [u16; NOTED],
     replaces: usize,
+    /// What is lent where no tuple stands.
+    blank: [u8; BODY_BYTES],
 }
 
 impl Untold {
@@ -40,10 +45,11 @@ impl Untold {
             fetches: 0,
             replaced: [0; NOTED],
             replaces: 0,
+            blank: [0; BODY_BYTES],
         })
     }
 
-    /// The bytes of a body, and none where there is no such tuple.
+    /// The bytes of a body, and none if there is no such tuple.
     pub(crate) fn bytes(&self, slot: u16) -> &[u8] {
         match self.bodies.get(usize::from(slot)) {
             Some(body) => body.as_slice(),
@@ -90,27 +96,32 @@ impl Tuples for Untold {
         Err(PageFault::Damaged(Place::Tuple(segment, tid)))
     }
 
-    // No page is in memory, so bodies are copied alone.
-    fn locate(&mut self, _segment: u8, _tid: Tid) -> Result<Option<BodyAt>, PageFault> {
-        Ok(None)
-    }
-
-    fn body(&self, _at: BodyAt) -> &[u8] {
-        unreachable!()
-    }
-
-    fn fetch(&mut self, _segment: u8, tid: Tid, into: &mut Body) -> Result<bool, PageFault> {
+    // The place tells the slot: no page is looked at.
+    fn locate(&mut self, segment: u8, tid: Tid) -> Result<Option<BodyAt>, PageFault> {
         self.fetches = self.fetches.saturating_add(1);
-        if tid.page != 0 {
-            return Ok(false);
+        let slot = usize::from(tid.slot);
+        if tid.page != 0 || slot >= PAGE_ENTRIES {
+            return Ok(None);
         }
-        match self.bodies.get(usize::from(tid.slot)) {
-            Some(body) => {
-                *into = Body::new();
-                into.extend_from_slice(body.as_slice());
-                Ok(!into.as_slice().is_empty())
-            }
-            None => Ok(false),
+        let Some(body) = self.bodies.get(slot) else {
+            return Ok(None);
+        };
+        let length = body.as_slice().len();
+        if length == 0 {
+            return Ok(None);
+        }
+        Ok(Some(BodyAt {
+            key: home(segment, tid),
+            place: BODIES_AT + tid.slot,
+            length: length as u16,
+        }))
+    }
+
+    fn body(&self, at: BodyAt) -> &[u8] {
+        let length = usize::from(at.length);
+        match self.bodies.get(usize::from(at.place - BODIES_AT)) {
+            Some(body) if body.as_slice().len() == length => body.as_slice(),
+            _ => &self.blank[..length],
         }
     }
 

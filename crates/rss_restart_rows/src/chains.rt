@@ -6,7 +6,7 @@ use rss_images::assert_same;
 use std::alloc::Global;
 use std::test::Fail;
 
-/// The store after these steps and a restart, where this tuple, if any, stood alone in the chain at
+/// The store after these steps and a restart. This tuple, if any, was the only one in the chain at
 /// the checkpoint.
 fn restarted(alloc: Global, steps: &[Step], member: Option<usize>) -> Result<Tried, Fail> {
     let mut written = Written::new(alloc)?;

@@ -22,7 +22,7 @@ const LINK: u8 = 1;
 /// How many log pages the device has.
 const LOG_PAGES: u32 = 16;
 
-/// What each tuple holds, where there is one.
+/// What each tuple holds, if there is one.
 pub(crate) type Values = [Option<u8>; TUPLES];
 
 /// What a transaction does, by its number. Beside the log only values are kept, and not the chain.
@@ -34,7 +34,7 @@ pub(crate) enum Step {
     Back(u32, usize),
     End(u32),
     Abort(u32),
-    /// It puts a tuple into the chain, right behind another one or first, or takes it out there.
+    /// It puts a tuple into the chain, right after another one or first, or takes it out there.
     Join(u32, usize, Option<usize>),
     Leave(u32, usize, Option<usize>),
     /// The tables are saved.
@@ -242,7 +242,7 @@ fn change_of(tuple: usize, from: Option<u8>, to: Option<u8>) -> Option<Change>
     }
 }
 
-/// The changes by which a tuple comes into the chain, right behind another one or first, and goes.
+/// The changes by which a tuple comes into the chain, right after another one or first, and goes.
 fn connect(tuple: usize, left: Option<usize>) -> Change
     ensures { IsChangeBounded result }
 {

@@ -29,14 +29,13 @@ const BLOCK_BYTES: usize = 13;
 
 pub(crate) type Tried = Store<Untold<MemPages>>;
 
-/// The tables after a restart over a store with those of the last checkpoint, where the chain is
-/// empty.
+/// The tables after a restart over a store with those of the last checkpoint; the chain is empty.
 pub(crate) fn restarted(alloc: Global, written: &Written) -> Result<Values, Fail> {
     let mut tuples = restarted_store(alloc, written, None)?;
     values_in(&mut tuples)
 }
 
-/// The same store, where this tuple stands alone in the chain, if any does.
+/// The same store. This tuple, if any, is the only one in the chain.
 #[tactic(auto, using(rss_images::specs::Silent::never_told))]
 pub(crate) fn restarted_store(
     alloc: Global,
@@ -46,7 +45,7 @@ pub(crate) fn restarted_store(
     let pages = MemPages::new(alloc, SLOTS)?;
     let mut tuples = Store::new(Untold::new(pages));
     put_catalog(&mut tuples, &written.saved, member)?;
-    let mut catalog = Catalog::load(alloc, &mut tuples.pages)?;
+    let mut catalog = Catalog::load(alloc, &mut tuples.pages)?.catalog;
     put_tuples(&mut tuples, &written.saved, member)?;
     let checkpoint = written.checkpoint;
     if checkpoint < written.log.head() || checkpoint > written.log.end() {
@@ -114,8 +113,8 @@ fn place(tuple: Option<usize>) -> [u8; 6] {
     }
 }
 
-/// The bytes of a tuple that say where it stands in the chain: in front of it and behind it stand
-/// these; or that it stands there not at all.
+/// The bytes of a tuple that say where it stands in the chain: before it and after it stand these;
+/// or that it stands there not at all.
 pub(crate) fn block(
     stands: bool,
     previous: Option<usize>,

@@ -139,7 +139,7 @@ fn put_page(store: &mut Tried, key: PageKey, page: &Page) -> Result<(), Undone>
     Ok(())
 }
 
-/// What the entries of a page hold, which is nothing where the page isn't mapped.
+/// What the entries of a page hold, which is nothing if the page isn't mapped.
 pub(crate) fn entries_of(
     store: &mut Tried,
     space: Space,

@@ -124,7 +124,7 @@ impl Beside {
     }
 
     /// One change: of each turn's halves, the first has more that are put, the second more that are
-    /// taken away. Where no page is spare, a tuple is taken away.
+    /// taken away. If no page is spare, a tuple is taken away.
     fn change(&mut self, draws: &mut Draws, number: u32) -> Result<Option<Tid>, Fail> {
         let kind = draws.below(8);
         if self.store.pages.spare() == 0 {

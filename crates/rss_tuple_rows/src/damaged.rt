@@ -13,7 +13,7 @@ use std::test::Fail;
 const AT: Tid = Tid { page: 3, slot: 1 };
 
 /// A home page whose slots 0 and 1 have these entries. Of a body at byte 1,040 the page has the bytes.
-fn home_with(first: [u8; 8], second: [u8; 8]) -> Page {
+pub(crate) fn home_with(first: [u8; 8], second: [u8; 8]) -> Page {
     let mut page = [0u8; 4096];
     page[..8].copy_from_slice(&[1, 1, 0, 0, 0, 0, 0, 3]);
     page[16..24].copy_from_slice(&first);
@@ -22,7 +22,7 @@ fn home_with(first: [u8; 8], second: [u8; 8]) -> Page {
 }
 
 /// Overflow page 7, of which slot 0 has a body.
-fn overflow_page() -> Page {
+pub(crate) fn overflow_page() -> Page {
     let mut page = [0u8; 4096];
     page[..8].copy_from_slice(&[2, 1, 0, 0, 0, 0, 0, 7]);
     page[16..24].copy_from_slice(&BODY);
@@ -31,15 +31,15 @@ fn overflow_page() -> Page {
 
 /// Entries: none, a body of nine bytes, one of 1,024 behind it, a forward to slot 5 of overflow page 7,
 /// and one of a kind that there isn't.
-const NOTHING: [u8; 8] = [0; 8];
+pub(crate) const NOTHING: [u8; 8] = [0; 8];
 
-const BODY: [u8; 8] = [1, 0, 4, 16, 0, 9, 0, 0];
+pub(crate) const BODY: [u8; 8] = [1, 0, 4, 16, 0, 9, 0, 0];
 
 const LONG_BODY: [u8; 8] = [1, 0, 4, 25, 4, 0, 0, 0];
 
 const FORWARD: [u8; 8] = [2, 5, 0, 0, 0, 0, 0, 7];
 
-const MALFORMED: [u8; 8] = [3, 0, 0, 0, 0, 0, 0, 0];
+pub(crate) const MALFORMED: [u8; 8] = [3, 0, 0, 0, 0, 0, 0, 0];
 
 fn damaged(space: Space, number: u32) -> Undone {
     Undone::Fault(PageFault::Damaged(Place::Page(key_of(space, number))))
@@ -50,7 +50,7 @@ fn fetched(store: &mut Tried) -> Result<bool, Undone> {
 }
 
 /// A store whose home page 3 is this one.
-fn store_with(alloc: Global, home: &Page) -> Result<Tried, Fail> {
+pub(crate) fn store_with(alloc: Global, home: &Page) -> Result<Tried, Fail> {
     let mut store = empty(alloc)?;
     put_home(&mut store, 3, home)?;
     Ok(store)

@@ -21,7 +21,7 @@ fn lengthen(store: &mut Tried, at: Tid, length: usize) -> Result<(), Fail> {
     Ok(())
 }
 
-/// How many pages a fetch asks for, where it finds a body of this length.
+/// How many pages a fetch asks for, if it finds a body of this length.
 fn asks_of_fetch(store: &mut Tried, at: Tid, length: usize) -> Result<u32, Fail> {
     let before = store.pages.asks();
     let mut body = Body::new();

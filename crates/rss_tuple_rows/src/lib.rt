@@ -6,6 +6,8 @@ mod calls;
 #[cfg(test)]
 mod changes;
 #[cfg(test)]
+mod checking;
+#[cfg(test)]
 mod damaged;
 #[cfg(test)]
 mod identifiers;

@@ -102,7 +102,7 @@ fn values_of_added_fields_have_a_byte_before_them(rt: HostRuntime) -> Result<(),
 /// How many of eight texts have 255 bytes while the others are empty, and how many bytes they are.
 const SIZES: [(usize, usize); 3] = [(8, 2048), (0, 8), (5, 1283)];
 
-/// So many texts of 255 bytes, and empty ones behind them.
+/// So many texts of 255 bytes, and empty ones after them.
 fn texts(full: usize) -> [Written; 8] {
     let mut values = [Written::Text(b""); 8];
     for (at, value) in values.iter_mut().enumerate() {

@@ -39,40 +39,32 @@ const ORIGINAL: Turned = (1, 18, 0);
 
 const EARLY: Turned = (9, 19, 0);
 
-/// What a catalog of that relation and that link has with some bytes turned, these bytes, whether its
-/// pages are in form, and the page at which it is refused, if it is. As yet added fields and late links
-/// are refused in form too.
-static CATALOGS: [(&str, &[Turned], bool, Option<u8>); 12] = [
-    ("two added fields and a late link", &[], true, Some(1)),
-    ("two added fields", &[EARLY], true, Some(1)),
-    ("one added field", &[(1, 18, 1), EARLY], true, Some(1)),
-    ("three added fields", &[(1, 18, 3), EARLY], true, Some(1)),
-    ("a late link", &[ORIGINAL], true, Some(9)),
-    ("none of these", &[ORIGINAL, EARLY], true, None),
+/// What a catalog of that relation and that link has with some bytes turned, these bytes, and the page
+/// at which it is refused, if it is. As yet added fields and late links are refused in form too.
+static CATALOGS: [(&str, &[Turned], Option<u8>); 12] = [
+    ("two added fields and a late link", &[], Some(1)),
+    ("two added fields", &[EARLY], Some(1)),
+    ("one added field", &[(1, 18, 1), EARLY], Some(1)),
+    ("three added fields", &[(1, 18, 3), EARLY], Some(1)),
+    ("a late link", &[ORIGINAL], Some(9)),
+    ("none of these", &[ORIGINAL, EARLY], None),
     (
         "more added fields than fields",
         &[(1, 18, 4), EARLY],
-        false,
         Some(1),
     ),
-    ("255 added fields", &[(1, 18, 255), EARLY], false, Some(1)),
+    ("255 added fields", &[(1, 18, 255), EARLY], Some(1)),
     (
         "an added field of no relation",
         &[ORIGINAL, EARLY, (1, 530, 1)],
-        false,
         Some(1),
     ),
-    ("late by 2", &[ORIGINAL, (9, 19, 2)], false, Some(9)),
-    ("late by 255", &[ORIGINAL, (9, 19, 255)], false, Some(9)),
-    (
-        "late and no link",
-        &[ORIGINAL, EARLY, (9, 83, 1)],
-        false,
-        Some(9),
-    ),
+    ("late by 2", &[ORIGINAL, (9, 19, 2)], Some(9)),
+    ("late by 255", &[ORIGINAL, (9, 19, 255)], Some(9)),
+    ("late and no link", &[ORIGINAL, EARLY, (9, 83, 1)], Some(9)),
 ];
 
-/// A page of that catalog, where the segment has a name of this letter.
+/// A page of that catalog, if the segment has a name of this letter.
 fn page_of(number: u32, letter: u8, turned: &[Turned]) -> Page {
     let mut page = [0u8; PAGE_BYTES];
     match number {
@@ -89,12 +81,18 @@ fn page_of(number: u32, letter: u8, turned: &[Turned]) -> Page {
     page
 }
 
-/// Why that catalog is refused, if it is.
-fn refused(alloc: Global, letter: u8, turned: &[Turned]) -> Result<Option<PageFault>, Fail> {
+/// The pages of that catalog.
+fn pages_of(alloc: Global, letter: u8, turned: &[Turned]) -> Result<MemPages, Fail> {
     let mut pages = MemPages::new(alloc, SLOTS)?;
     for number in 0..SYSTEM_PAGES {
         put_page(&mut pages, number, &page_of(number, letter, turned))?;
     }
+    Ok(pages)
+}
+
+/// Why that catalog is refused, if it is.
+fn refused(alloc: Global, letter: u8, turned: &[Turned]) -> Result<Option<PageFault>, Fail> {
+    let mut pages = pages_of(alloc, letter, turned)?;
     Ok(Catalog::load(alloc, &mut pages).err())
 }
 
@@ -127,18 +125,73 @@ fn assert_refused(
 
 #[test]
 fn added_fields_and_late_links_are_refused_at_their_pages(rt: HostRuntime) -> Result<(), Fail> {
-    for (case, turned, _, page) in &CATALOGS {
+    for (case, turned, page) in &CATALOGS {
         assert_refused(rt.alloc(), b's', (case, turned), *page)?;
     }
     Ok(())
 }
 
-/// No name begins with a digit, and names are tested once all pages were found in form.
+/// No name begins with a digit, and the page of the segment comes before the others.
 #[test]
-fn added_fields_and_late_links_are_in_form(rt: HostRuntime) -> Result<(), Fail> {
-    for (case, turned, formed, page) in &CATALOGS {
-        let page = if *formed { Some(0) } else { *page };
-        assert_refused(rt.alloc(), b'7', (case, turned), page)?;
+fn the_first_page_is_named(rt: HostRuntime) -> Result<(), Fail> {
+    for (case, turned, _) in &CATALOGS {
+        assert_refused(rt.alloc(), b'7', (case, turned), Some(0))?;
     }
+    Ok(())
+}
+
+/// The name of an image of the first field, its relation, how many fields it has, and the field.
+const IMAGE: [Turned; 4] = [(7, 0, b'i'), (7, 16, 1), (7, 18, 1), (7, 24, 1)];
+
+/// An image with some levels, bytes of the link's ends, and the first image and the first link of which
+/// it is said that it can't be so.
+static PLACED: [(&str, u8, &[Turned], Option<u8>, Option<u8>); 5] = [
+    ("a level and no ends", 1, &[], None, None),
+    ("no level", 0, &[], Some(1), None),
+    ("slot 127", 1, &[(9, 24, 0), (9, 25, 127)], None, None),
+    (
+        "no level, and slot 128",
+        0,
+        &[(9, 24, 0), (9, 25, 128)],
+        Some(1),
+        Some(1),
+    ),
+    (
+        "six bytes that are not all 255",
+        1,
+        &[(9, 26, 0)],
+        None,
+        Some(1),
+    ),
+];
+
+#[test]
+fn levels_and_ends_are_no_flaws_of_their_pages(rt: HostRuntime) -> Result<(), Fail> {
+    for (case, levels, ends, image, link) in &PLACED {
+        let mut pages = pages_of(rt.alloc(), b's', &[ORIGINAL, EARLY])?;
+        let mut page = page_of(7, b's', &IMAGE);
+        page[19] = *levels;
+        rewrite(&mut pages, 7, &page)?;
+        let mut page = page_of(9, b's', ends);
+        page[19] = 0;
+        rewrite(&mut pages, 9, &page)?;
+        let loaded = Catalog::load(rt.alloc(), &mut pages)?;
+        assert_same(&loaded.image, image, case)?;
+        assert_same(&loaded.link, link, case)?;
+    }
+    Ok(())
+}
+
+/// Writes a page that is there.
+fn rewrite(pages: &mut MemPages, number: u32, page: &Page) -> Result<(), Fail> {
+    let key = PageKey {
+        segment: 0,
+        space: Space::System,
+        number,
+    };
+    if !pages.has(key) {
+        return Err("no page can be written".into());
+    }
+    pages.write(key, page)?;
     Ok(())
 }

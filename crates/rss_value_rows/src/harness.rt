@@ -55,7 +55,7 @@ fn value_of(alloc: Global, value: Written) -> Result<Value, AllocError> {
     }
 }
 
-/// The bytes of a tuple's values, where it fits.
+/// The bytes of a tuple's values, if it fits.
 pub(crate) fn body_of(fields: &[FieldDef], tuple: &Tuple) -> Option<Body>
     ensures { IfSome result (λ body. Spells (kinds fields.now) body tuple.now) }
 {
@@ -76,7 +76,7 @@ fn are_numbers(fields: &[FieldDef], which: &[u8]) -> bool
         .all(|number| *number >= 1 && usize::from(*number) <= last)
 }
 
-/// The key of a tuple, where it fits and there is one.
+/// The key of a tuple, if it fits and there is one.
 pub(crate) fn key_of(fields: &[FieldDef], which: &[u8], tuple: &Tuple) -> Option<Key> {
     let body = body_of(fields, tuple)?;
     if which.len() > MOST_FIELDS || !are_numbers(fields, which) {
