@@ -71,7 +71,7 @@ impl<D: Device> Buffer<D> {
     ghost use Rattle.rss_buffer.specs.Devices.{device_of};
 
     /// The pages of the store that a device holds, with its selected root and its map, so many of
-    /// them in memory. Nothing is read or written as yet.
+    /// them in memory. Nothing is read or written.
     pub fn new(
         alloc: Global,
         device: D,

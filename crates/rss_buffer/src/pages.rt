@@ -18,8 +18,8 @@ impl<D: Device> Buffer<D> {
     ghost use Rattle.rss_buffer.specs.Views.{pages_view};
     ghost use Rattle.rss_buffer.specs.Devices.{buffer_view};
 
-    /// Writes the page of a slot there, where it is in memory and was changed, and in the same run
-    /// those of the slots behind it, up to the first that isn't so.
+    /// Writes the page of a slot there, if it is in memory and was changed, and in the same run
+    /// those of the slots after it, up to the first that isn't so.
     pub(crate) fn write_back(&mut self, slot: u32) -> Result<(), PageFault>
         requires { slot < length self.old.shadow.current }
         ensures written { OnOk result
@@ -41,7 +41,7 @@ impl<D: Device> Buffer<D> {
         Ok(())
     }
 
-    /// Makes sure that a frame is free. The page that leaves is written to its slot first, where it
+    /// Makes sure that a frame is free. The page that leaves is written to its slot first, if it
     /// was changed. It isn't the one that was used last.
     fn make_room(&mut self) -> Result<(), PageFault>
         ensures full { OnErr result (IsFilled (buffer_view self.old)) }
@@ -64,7 +64,7 @@ impl<D: Device> Buffer<D> {
         Ok(())
     }
 
-    /// Writes a page that is in memory to its slot, where it was changed.
+    /// Writes a page that is in memory to its slot, if it was changed.
     fn write_out(&mut self, key: PageKey, changed: bool) -> Result<(), PageFault>
         requires { IsInFrame (buffer_view self.old).frames key changed }
         ensures written { OnOk result (IsUnchanged (buffer_view self.new).frames key) }
@@ -83,7 +83,7 @@ impl<D: Device> Buffer<D> {
         self.write_back(slot)
     }
 
-    /// Makes sure that a frame is free, where none has the page.
+    /// Makes sure that a frame is free, if none has the page.
     fn make_room_for(&mut self, key: PageKey) -> Result<(), PageFault>
         ensures full { OnErr result (IsFilled (buffer_view self.old)) }
         ensures room { OnOk result
@@ -146,7 +146,7 @@ impl<D: Device> Buffer<D> {
         Ok(())
     }
 
-    /// Copies so many bytes of a page into another one, where both are in memory.
+    /// Copies so many bytes of a page into another one, if both are in memory.
     fn copy_there(&mut self, from: PageKey, from_at: usize, to: PageKey, to_at: usize, count: usize)
         requires from { IsSome ((buffer_view self.old).frames from) }
         requires to { IsSome ((buffer_view self.old).frames to) }

@@ -11,7 +11,7 @@ use rss_frames::Frames;
 use rss_pagemap::SlotTable;
 use std::alloc::{AllocError, Global};
 
-/// Room for pages that stand one behind the other, and are written together.
+/// Room for neighbouring pages, which are written together.
 #[derive(Drop)]
 pub(crate) struct Run {
     pub(crate) pages: Vec<Page>,
@@ -55,7 +55,7 @@ impl Run {
     }
 }
 
-/// The page of a slot, where it is in memory and was changed.
+/// The page of a slot, if it is in memory and was changed.
 fn changed_page<'f>(owners: &SlotTable, frames: &'f Frames, slot: u32) -> Option<&'f Page>
     requires { slot < length owners.now }
     ensures some { IfSome result (λ page.

@@ -21,7 +21,7 @@ use rss_shadow::Shadow;
 /// no stop finds them; then a root is selected that names this map, and from there on a stop finds
 /// them all. At last the map is adopted, so that its slots are not written again.
 pub trait Saving: Pages {
-    /// What there is to see of them besides.
+    /// What more there is to see of them.
     ghost saving: { Self → SavingView };
 
     fn shadow(&self) -> &Shadow
@@ -92,7 +92,7 @@ pub trait Saving: Pages {
 
     /// Writes a root to the place of the other one, and then selects it. Answers its number.
     ///
-    /// At each moment a stop leaves the root that was selected or the new one. After it, where the
+    /// At each moment a stop leaves the root that was selected or the new one. After it, if the
     /// current map was saved to the new root's area, it leaves that map with its pages.
     fn switch(&mut self, valid: u8, root: &Root) -> Result<u8, PageFault>
         requires low { 0 < valid }
@@ -221,7 +221,7 @@ impl<D: Device> Buffer<D> {
         Ok(())
     }
 
-    /// Writes the page of a slot there, where it is in memory and was changed.
+    /// Writes the page of a slot there, if it is in memory and was changed.
     fn flush_slot(&mut self, slot: u32) -> Result<(), PageFault>
         requires { slot < length self.old.shadow.current }
         ensures written { OnOk result

@@ -33,7 +33,7 @@ fn are_employees(count: u32) -> bool
     1 <= count && count <= MOST_EMPLOYEES
 }
 
-/// Makes an empty store of so many slots and log pages, where none is open in the handle, and opens
+/// Makes an empty store of so many slots and log pages, if none is open in the handle, and opens
 /// it. Its first steps make it in a file.
 #[unsafe(no_mangle)]
 pub extern "C" fn rss_format(alloc: Global, store: &mut RssStore, slots: u32, log_pages: u32) -> u32
@@ -51,7 +51,7 @@ pub extern "C" fn rss_format(alloc: Global, store: &mut RssStore, slots: u32, lo
     }
 }
 
-/// Opens the store of these bytes, where none is open in the handle.
+/// Opens the store of these bytes, if none is open in the handle.
 #[unsafe(no_mangle)]
 pub extern "C" fn rss_open(
     alloc: Global,

@@ -39,7 +39,7 @@ impl RssStore {
         Some(replace(&mut self.kept, Kept::none(alloc)).into_box())
     }
 
-    /// Puts a store in, where none is open.
+    /// Puts a store in, if none is open.
     pub(crate) fn put(&mut self, store: Box<OpenStore>)
         requires { held self.old ≡ None }
         ensures { held self.new ≡ Some store.value }

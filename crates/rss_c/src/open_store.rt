@@ -20,7 +20,7 @@ use rss_top::{Status, run_line};
 use std::alloc::Global;
 
 /// Why no store was opened, and the device as it was handed back. There is none at most of the ends
-/// for want of memory, nor where the bytes aren't whole pages.
+/// for want of memory, nor if the bytes aren't whole pages.
 #[derive(Drop)]
 pub(crate) struct Refused {
     pub(crate) fault: OpenFault,
@@ -125,7 +125,7 @@ impl OpenStore {
         }
     }
 
-    /// Runs a line. Its reply is in the text; where the store was found to be damaged, the program's
+    /// Runs a line. Its reply is in the text; if the store was found to be damaged, the program's
     /// line about that. If a step is gone that wasn't taken, the device has failed: what the file
     /// lacks must not go unseen.
     pub(crate) fn run(

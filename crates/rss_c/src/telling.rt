@@ -10,7 +10,7 @@ use rss_line::{say_damaged, say_not_a_store};
 use rss_top::Status;
 use std::alloc::{AllocError, Global};
 
-/// The line that the program writes where it ends so. There is none for most ends.
+/// The line that the program writes if it ends so. There is none for most ends.
 fn line_about(alloc: Global, status: Status) -> Result<Vec<u8>, AllocError>
     ensures { IfOk result (λ line. line.items ≡ line_of status) }
 {
@@ -28,7 +28,7 @@ fn line_about(alloc: Global, status: Status) -> Result<Vec<u8>, AllocError>
     }
 }
 
-/// Writes the line that the program writes where it ends so, if there is one, and answers the status
+/// Writes the line that the program writes if it ends so, if there is one, and answers the status
 /// with which it then ends.
 pub(crate) fn tell(alloc: Global, status: Status, text: &mut RssText) -> Status
     ensures { Says status (line_of status) result (text_view text.old) (text_view text.new) }
@@ -42,7 +42,7 @@ pub(crate) fn tell(alloc: Global, status: Status, text: &mut RssText) -> Status
     }
 }
 
-/// How the program ends where an opening fails so.
+/// How the program ends if an opening fails so.
 pub(crate) fn status_of(fault: OpenFault) -> Status
     ensures { result ≡ fault_status fault }
 {

@@ -15,7 +15,7 @@ pub(crate) fn failed(faults: &mut u64) -> Failed
     Failed
 }
 
-/// Whether this call fails, where so many calls before it don't.
+/// Whether this call fails, if so many calls before it don't.
 pub(crate) fn is_due(calls_before: &mut Option<u64>) -> bool
     ensures due { IsTrue result ↔ (calls_before.old ≡ Some 0) }
     ensures next { calls_before.new ≡ after_call calls_before.old }

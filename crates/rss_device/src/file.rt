@@ -8,11 +8,11 @@ use crate::store_file::StoreFiles;
 use rss_base::{Device, Failed, Page};
 use std::io;
 
-/// Pages in a file, one behind the other. It tells nothing of what the file holds.
+/// Pages in a file, one after another. It tells nothing of what the file holds.
 ///
 /// The file is opened and locked at the first call, and the lock is held until the device is
-/// dropped. Where there is no file, `set_size` makes it. Any other call fails then, as each does
-/// that can't open the file, or finds that another process has its lock.
+/// dropped. If there is no file, `set_size` makes it. Any other call fails then, as each does that
+/// can't open the file, or finds that another process has its lock.
 #[derive(Drop)]
 pub struct FileDevice<'a, S: StoreFiles> {
     files: &'a S,
@@ -57,8 +57,8 @@ impl<S: StoreFiles> Device for FileDevice<'_, S> {
 
     ghost limited = { λ d. Prim.omega (arith, d.counts) };
 
-    /// A file of fewer than three whole pages has as many as are whole. Where a longer one ends
-    /// within a page, this is `u64::MAX`, which is the size of no store.
+    /// A file of fewer than three whole pages has as many as are whole. If a longer one ends within
+    /// a page, this is `u64::MAX`, which is the size of no store.
     fn size(&mut self) -> Result<u64, Failed> {
         let pages = match opened(self.files, self.path, &mut self.file, false) {
             Ok(file) => file.pages(),
@@ -113,7 +113,7 @@ impl<S: StoreFiles> Device for FileDevice<'_, S> {
     }
 }
 
-/// The file, opened if it isn't yet, and made where there is none and `make` says so.
+/// The file, opened if it isn't yet, and made if there is none and `make` says so.
 fn opened<'f, S: StoreFiles>(
     files: &S,
     path: &str,
@@ -127,7 +127,7 @@ fn opened<'f, S: StoreFiles>(
     Ok(file.insert(open))
 }
 
-/// Counts a fault where this failed.
+/// Counts a fault if this failed.
 fn counted<T: Drop>(outcome: io::Result<T>, faults: &mut u64) -> Result<T, Failed>
     ensures ok { IsOk result ↔ IsOk outcome }
     ensures cause { HasCause faults.old faults.new result }

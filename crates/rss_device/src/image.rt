@@ -129,7 +129,7 @@ fn leave_filled(pages: &mut Vec<Page>, event: &Event, fill: u8) -> Result<(), Al
     }
 }
 
-/// Puts a page at a place, where there is one.
+/// Puts a page at a place, if there is one.
 fn put(pages: &mut Vec<Page>, at: u64, bytes: &Page)
     ensures { pages.new.items ≡ slice_set pages.old.items at bytes.now }
 {

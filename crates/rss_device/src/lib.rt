@@ -1,6 +1,6 @@
 //! Devices, sources and sinks: in memory, where they tell their contents; over readers and writers,
 //! where they tell what those tell; and over files, where they tell nothing. And pages in memory,
-//! with no device behind them.
+//! with no device below them.
 #![tactic(auto)]
 
 mod event;

@@ -25,8 +25,8 @@ pub(crate) struct LockedFile<F: StoreFile> {
 }
 
 impl<F: StoreFile> LockedFile<F> {
-    /// Opens the file at a path and locks it. Where there is none, it is made if `make` says so,
-    /// and its name is brought to the disk.
+    /// Opens the file at a path and locks it. If there is none, it is made if `make` says so, and
+    /// its name is brought to the disk.
     pub(crate) fn open<S: StoreFiles<File = F>>(
         files: &S,
         path: &str,
@@ -38,8 +38,8 @@ impl<F: StoreFile> LockedFile<F> {
         })
     }
 
-    /// How many pages it has. Where it holds pages enough for a store and ends within a page, this
-    /// is `u64::MAX`, which is the size of no store.
+    /// How many pages it has. If it holds pages enough for a store and ends within a page, this is
+    /// `u64::MAX`, which is the size of no store.
     pub(crate) fn pages(&self) -> io::Result<u64>
         ensures { IfOk result (λ n. IfSome (F.view self.now.file).bytes (λ held.
             IsPageCount (length held) n)) }
@@ -70,7 +70,7 @@ impl<F: StoreFile> LockedFile<F> {
         self.file.write_from(offset(at)?, from)
     }
 
-    /// Writes pages one behind the other, which the system is given all at once.
+    /// Writes neighbouring pages, which the system is given all at once.
     pub(crate) fn write_run(&mut self, at: u64, from: &[Page]) -> io::Result<()>
         ensures written { OnOk result (IfSome (F.view self.new.file).bytes (HoldsPages at from.now)) }
         ensures others { Turns (ArePagesWritten at (length from.now))
@@ -99,9 +99,9 @@ fn open_or_make<S: StoreFiles>(files: &S, path: &str, make: bool) -> io::Result<
     }
 }
 
-/// The same file under a descriptor above those of the standard streams. Where one of them is
-/// closed the system gives its descriptor to the next file that is opened, and what is written to
-/// the stream would go into that file.
+/// The same file under a descriptor above those of the standard streams. If one of them is closed,
+/// the system gives its descriptor to the next file that is opened, and what is written to the
+/// stream would go into that file.
 fn away_from_streams<F: StoreFile>(file: F) -> io::Result<F>
     ensures above { IfOk result (λ moved. pos 2 <ℤ (F.view moved).descriptor) }
     ensures same { pos 2 <ℤ (F.view file).descriptor → result ≡ Ok file }

@@ -62,8 +62,8 @@ impl MemDevice {
         }
     }
 
-    /// Fails the calls with these numbers, counted from 0 over all calls of the device, and no
-    /// others.
+    /// Fails the calls whose numbers are in `calls`, counted from 0 over all calls of the device,
+    /// and no others.
     pub fn failing_at(self, calls: Vec<u64>) -> Self
         ensures reads { OnlyReads (view_of self) (view_of result) }
         ensures moment { (view_of result).disk.moment ≡ (view_of self).disk.moment }
@@ -123,7 +123,7 @@ impl MemDevice {
         )
     }
 
-    /// Writes a page. Where no memory is found for the event, nothing is written.
+    /// Writes a page. If no memory is found for the event, nothing is written.
     fn put(&mut self, at: u64, from: &Page) -> Result<(), AllocError>
         requires { at < (view_of self.old).size }
         ensures written { OnOk result (self.new.pages.items
@@ -136,7 +136,7 @@ impl MemDevice {
         Ok(())
     }
 
-    /// Tears a page, where memory is found for the event. It still reads as before.
+    /// Tears a page, if memory is found for the event. It still reads as before.
     fn tear(&mut self, at: u64)
         requires { at < (view_of self.old).size }
         ensures only { OnlyTouches (IsAt at) (view_of self.old) (view_of self.new) }

@@ -7,7 +7,7 @@ use rss_base::{Failed, Source};
 use std::io;
 use std::io::{ErrorKind, Read};
 
-/// The bytes of a reader. It tells those that are left where the reader does.
+/// The bytes of a reader. It tells those that are left if the reader does.
 #[derive(Drop)]
 pub struct ReaderSource<R: Read + Drop> {
     reader: R,
@@ -34,7 +34,7 @@ impl<R: Read + Drop> Source for ReaderSource<R> {
     }
 }
 
-/// Reads, again where a signal interrupts, but not without end.
+/// Reads, again if a signal interrupts, but not without end.
 fn read_some<R: Read>(reader: &mut R, into: &mut [u8]) -> io::Result<usize>
     ensures within { IfOk result (λ n. n ≤ length into.old) }
     ensures bytes { ReadConsumes (R.remaining reader.old) (R.remaining reader.new) result into.new }

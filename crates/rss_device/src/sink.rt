@@ -42,7 +42,7 @@ impl MemSink {
         MemSink { at_most, ..self }
     }
 
-    /// Fails the write with this number, counted from 0 from here on, and no other.
+    /// Fails the write `call`, counted from 0 from here on, and no other.
     pub fn failing_at(self, call: u64) -> Self
         ensures view { view_of result ≡ view_of self }
         ensures taken { most_taken result ≡ most_taken self }

@@ -41,7 +41,7 @@ impl<'a> MemSource<'a> {
         MemSource { piece, ..self }
     }
 
-    /// Fails the read with this number, counted from 0 from here on, and no other.
+    /// Fails the read `call`, counted from 0 from here on, and no other.
     pub fn failing_at(self, call: u64) -> Self
         ensures view { view_of result ≡ view_of self.entry }
         ensures piece { piece_of result ≡ piece_of self.entry }

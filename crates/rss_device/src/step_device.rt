@@ -9,9 +9,10 @@ use crate::steps::Steps;
 use rss_base::{Device, Failed, PAGE_BYTES, Page};
 use std::alloc::{AllocError, Global};
 
-/// Pages in memory. Each page that is written, each sync and each new size is a step, and a device
-/// that holds the same pages at first and takes these steps, in this order, holds the same pages after
-/// them. A step is kept until its reader says that it was taken. A call that finds no memory for its step fails.
+/// Pages in memory. Each page that is written, each sync and each new size is a step. A device that
+/// holds the same pages at first and takes these steps, in this order, holds the same pages after
+/// them. A step is kept until its reader says that it was taken. A call that finds no memory for
+/// its step fails.
 #[derive(Drop)]
 pub struct StepDevice {
     pages: Vec<Page>,
@@ -71,7 +72,7 @@ impl StepDevice {
         self.steps.forget(k);
     }
 
-    /// Writes a page. Where no memory is found for the step, nothing is written.
+    /// Writes a page. If no memory is found for the step, nothing is written.
     fn put(&mut self, at: u64, from: &Page) -> Result<(), AllocError>
         requires { at < (view_of self.old).size }
         ensures written { OnOk result (self.new.pages.items

@@ -58,8 +58,8 @@ impl Steps {
         self.taken.set(k);
     }
 
-    /// Keeps one more step, where memory is found for it. Where all others were taken, they are let
-    /// go first.
+    /// Keeps one more step, if memory is found for it. If all others were taken, they are let go
+    /// first.
     pub(crate) fn note(&mut self, step: Step) -> Result<(), AllocError>
         ensures noted { OnOk result (all_steps self.new ≡ all_steps self.old ++ step ∷ []) }
         ensures same { IsErr result → all_steps self.new ≡ all_steps self.old }

@@ -62,8 +62,8 @@ pub trait StoreFile: Drop {
 pub trait StoreFiles {
     type File: StoreFile;
 
-    /// Opens the file at a path, to read and to write it. Where there is none, it is made if
-    /// `make` says so, and else the error is `ErrorKind::NotFound`.
+    /// Opens the file at a path, to read and to write it. If there is none, it is made if `make`
+    /// says so, and otherwise the error is `ErrorKind::NotFound`.
     fn open_file(&self, path: &str, make: bool) -> io::Result<Self::File>;
 
     /// Brings the names in a folder to the disk.

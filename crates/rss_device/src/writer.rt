@@ -8,7 +8,7 @@ use std::io;
 use std::io::{ErrorKind, Write};
 
 /// A writer that passes on at once what it takes, as standard output does: it is never flushed. The
-/// sink tells what was written where the writer does.
+/// sink tells what was written if the writer does.
 #[derive(Drop)]
 pub struct WriterSink<W: Write + Drop> {
     writer: W,
@@ -38,7 +38,7 @@ impl<W: Write + Drop> Sink for WriterSink<W> {
     }
 }
 
-/// Writes at least a byte. A write is tried again where a signal interrupts, but not without end.
+/// Writes at least a byte. A write is tried again if a signal interrupts, but not without end.
 fn write_some<W: Write>(writer: &mut W, from: &[u8]) -> io::Result<usize>
     ensures within { IfOk result (λ n. n ≤ length from.now) }
     ensures some { IfOk result (λ n. 0 < n) }

@@ -11,7 +11,7 @@ ghost use Rattle.rss_entries.specs.Building.{pair_list, AreRising, BuildsMade};
 use rss_base::{Key, PageFault, Pages, Tid};
 use rss_image::Image;
 
-/// An image of these pairs, which rise, in pages of its own. Where this fails, some of them may still
+/// An image of these pairs, which rise, in pages of its own. If this fails, some of them may still
 /// be mapped.
 pub fn build<P: Pages>(
     pages: &mut P,

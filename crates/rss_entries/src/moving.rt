@@ -23,9 +23,9 @@ pub struct KeyFields<'a> {
     pub which: &'a [u8],
 }
 
-/// Moves the entry of a tuple in an image, where the tuple had the values of these bytes, if any, and
-/// has those of `next` now: takes the pair of the old values out and puts that of the new ones in.
-/// Where the key stays, nothing is done.
+/// Moves the entry of a tuple in an image. The tuple had the values of these bytes, if any, and has
+/// those of `next` now: the pair of the old values goes, and that of the new ones comes. If the key
+/// stays, nothing is done.
 pub fn move_entry<P: Pages>(
     pages: &mut P,
     image: &mut Image,

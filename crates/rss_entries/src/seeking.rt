@@ -44,7 +44,7 @@ pub fn find_owner<P: Pages>(
     Ok(found)
 }
 
-/// The pair of an image behind the one that was given last; before the first, the first pair whose
+/// The pair of an image after the one that was given last; before the first, the first pair whose
 /// key is at or above `start`.
 pub fn next_pair<P: Pages>(
     pages: &mut P,

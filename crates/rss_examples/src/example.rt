@@ -15,7 +15,7 @@ const PIECES: [usize; 3] = [1, 3, 65_536];
 #[derive(Clone, Copy)]
 struct Words<'a> {
     name: &'a str,
-    /// How many slots and log pages the store has; none where it is the one that the example before
+    /// How many slots and log pages the store has; none if it is the one that the example before
     /// left.
     size: Option<(&'a str, &'a str)>,
 }
@@ -81,8 +81,8 @@ fn read<R: Files + AllocGlobal>(rt: &R, folder: &str, name: &str, ending: &str) 
     fs::read(rt, path.as_str()).context(format_args!("reading {path}"))
 }
 
-/// Runs the example of a line of the list, where this device is what the one before left. Answers
-/// what it leaves.
+/// Runs the example of a line of the list. This device is what the one before left. Answers what it
+/// leaves.
 pub(crate) fn run_example<R: Files + AllocGlobal + Print>(
     rt: &R,
     folder: &str,

@@ -64,7 +64,7 @@ impl Frames {
     ghost use Rattle.rss_frames.specs.Entries.{Shows, AreDistinct, entries, room, fronted, written, others, settled, eldest, name_of};
     ghost use Rattle.rss_frames.specs.Frames.{frame_in, HasRoom, Admits, ReadsIn, CopiesFrame};
 
-    /// So many frames with no page as yet. Nothing else here takes memory.
+    /// So many frames with no page. Nothing else here takes memory.
     pub fn new(alloc: Global, frames: u32) -> Result<Frames, AllocError>
         requires { 0 < frames }
         ensures { IfOk result (λ all. Shows all [] frames) }
@@ -93,7 +93,7 @@ impl Frames {
         self.table.find(key).is_some()
     }
 
-    /// A page, where it is in memory, and whether it was changed. This is no use of it.
+    /// A page, if it is in memory, and whether it was changed. This is no use of it.
     pub fn get(&self, key: PageKey) -> Option<(&Page, bool)>
         ensures some { IfSome result (λ r.
             frame_in self.now key ≡ Some (record { page = r.0.now; changed = r.1 })) }
@@ -103,7 +103,7 @@ impl Frames {
         Some((&self.pages[frame as usize], self.changed[frame as usize]))
     }
 
-    /// Makes a page the one that was used last, where it is in memory, and tells whether it is.
+    /// Makes a page the one that was used last, if it is in memory, and tells whether it is.
     pub fn touch(&mut self, key: PageKey) -> bool
         ensures there { result ≡ is_some (frame_in self.old key) }
         ensures used { Shows self.new (fronted key (entries self.old)) (room self.old) }
@@ -183,7 +183,7 @@ impl Frames {
         Some((key, self.changed[frame as usize]))
     }
 
-    /// Takes a page out of memory, where it is there.
+    /// Takes a page out of memory, if it is there.
     pub fn remove(&mut self, key: PageKey)
         ensures gone { Shows self.new (others key (entries self.old)) (room self.old) }
         ensures free { IsSome (frame_in self.old key) → HasRoom self.new }
@@ -195,7 +195,7 @@ impl Frames {
         }
     }
 
-    /// Marks a page as unchanged, where it is in memory.
+    /// Marks a page as unchanged, if it is in memory.
     pub fn settle(&mut self, key: PageKey)
         ensures { Shows self.new (settled key (entries self.old)) (room self.old) }
     {

@@ -28,7 +28,7 @@ impl Model for Order {
 }
 
 impl Order {
-    /// An order with no frame as yet. Nothing else here takes memory.
+    /// An order with no frame. Nothing else here takes memory.
     pub(crate) fn new(alloc: Global, room: u32) -> Result<Order, AllocError>
         ensures { IfOk result (λ order. order ≡ record { frames = []; room = room }) }
     {

@@ -44,7 +44,8 @@ pub(crate) struct Seen {
     pub repeats: Option<Tid>,
 }
 
-/// The identifier of the first pair, where its key is the one before it, else the one that was known.
+/// The identifier of the first pair, if its key is the one before it, otherwise the one that was
+/// known.
 fn repeated(key: &Key, first: &Option<(Key, Tid)>, known: Option<Tid>) -> Option<Tid>
     ensures { result ≡ is_repeated key.now first.now known }
 {

@@ -133,8 +133,8 @@ fn share_nodes<P: Pages>(
     Ok(first)
 }
 
-/// Evens out two neighbours, of which the second begins at a pair. Where both stay, the pair at
-/// which the second begins now is answered, else its page was given.
+/// Evens out two neighbours, of which the second begins at a pair. If both stay, the pair at which
+/// the second begins now is answered; otherwise its page was given.
 pub(crate) fn even<P: Pages>(
     pages: &mut P,
     of: Nodes,

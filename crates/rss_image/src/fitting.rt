@@ -104,7 +104,7 @@ fn is_less(a: &[u8], b: &[u8]) -> bool
     }
 }
 
-/// Whether a pair is below a bound, where there is one.
+/// Whether a pair is below a bound, if there is one.
 fn is_under(pair: &[u8], limit: &Option<Pair>) -> bool
     ensures yes { result ≡ true → IsUnderLimit limit.now pair.now }
     ensures no { result ≡ false → IsUnderLimit limit.now pair.now → ⊥ }

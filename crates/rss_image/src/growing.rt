@@ -14,7 +14,7 @@ use crate::store::{take_page, write_node};
 use rss_base::{PageFault, Pages, node_most};
 use rss_node::{Node, Nodes, Pair};
 
-/// Puts an entry into a node that was read. Where it has no room, it is split, and the new node is
+/// Puts an entry into a node that was read. If it has no room, it is split, and the new node is
 /// answered.
 pub(crate) fn grow<P: Pages>(
     pages: &mut P,
@@ -52,7 +52,7 @@ pub(crate) fn grow<P: Pages>(
     Ok(Some(split))
 }
 
-/// The same, where the node has no room.
+/// The same, if the node has no room.
 fn divide<P: Pages>(
     pages: &mut P,
     of: Nodes,

@@ -83,7 +83,7 @@ impl Image {
         })
     }
 
-    /// Gives all pages of an image back. Where this fails, some of them may still be mapped.
+    /// Gives all pages of an image back. If this fails, some of them may still be mapped.
     pub fn destroy<P: Pages>(self, pages: &mut P) -> Result<(), PageFault>
         requires of { AreNodes (nodes_of self) }
         requires low { 1 ≤ self.levels }
@@ -293,7 +293,7 @@ fn is_found(found: &Option<Pair>, pair: &Pair) -> bool
     }
 }
 
-/// The identifier of a pair that was found, where it has this key.
+/// The identifier of a pair that was found, if it has this key.
 fn having(found: Option<(Key, Tid)>, key: &Key) -> Option<Tid>
     ensures some { IfSome result (λ tid. found ≡ Some (key.now, tid)) }
     ensures none { result ≡ None → (tid : Tid) → found ≡ Some (key.now, tid) → ⊥ }

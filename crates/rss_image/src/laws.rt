@@ -35,13 +35,13 @@ pub fn pages_are_numbered<P: Pages>(pages: &P)
         → AreNumbered (cells_of of (P.view pages.now).held) }
 {}
 
-/// Where pages spell an image by its rows (`ImageTree`), they are one by its nodes (`IsImage` of
+/// If pages spell an image by its rows (`ImageTree`), they are one by its nodes (`IsImage` of
 /// `rss_base`): the same pairs, in the same pages, each once.
 pub fn trees_are_images()
     ensures { (image : SomeImage) (held : Held) → AreImages image held }
 {}
 
-/// Where pages are an image by its nodes (`IsImage` of `rss_base`), each of them once, they spell it
+/// If pages are an image by its nodes (`IsImage` of `rss_base`), each of them once, they spell it
 /// by its rows (`ImageTree`): the same pairs, in the same pages.
 pub fn images_are_trees()
     ensures { (image : SomeImage) (held : Held) → SpellImages image held }

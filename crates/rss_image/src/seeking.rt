@@ -12,7 +12,7 @@ use crate::store::{damaged, load_page};
 use rss_base::{Page, PageFault, Pages};
 use rss_node::{LentNode, Nodes, Pair};
 
-/// What a search finds in a leaf: the first pair that isn't passed, else the next leaf's page.
+/// What a search finds in a leaf: the first pair that isn't passed, otherwise the next leaf's page.
 #[derive(Drop)]
 pub(crate) enum InLeaf {
     Here(Pair),
@@ -133,7 +133,7 @@ fn front<P: Pages>(pages: &mut P, of: Nodes, number: u32) -> Result<Pair, PageFa
     }
 }
 
-/// The first pair of a leaf that isn't passed, else the first one of the next leaf.
+/// The first pair of a leaf that isn't passed, otherwise the first one of the next leaf.
 fn first_in<P: Pages>(
     pages: &mut P,
     of: Nodes,
@@ -163,7 +163,7 @@ fn first_in<P: Pages>(
     }
 }
 
-/// The first pair under a node that isn't passed, or behind it in the next leaf.
+/// The first pair under a node that isn't passed, or after it in the next leaf.
 pub(crate) fn seek_in<P: Pages>(
     pages: &mut P,
     of: Nodes,

@@ -13,7 +13,7 @@ ghost use Rattle.rss_image.specs.Trees.{cells_of, HoldsNode, HasNode, KeepsPages
 use rss_base::{PageFault, PageKey, Pages, Place, Space};
 use rss_node::{LentNode, Node, Nodes};
 
-/// The image page of this number.
+/// The image page `number`.
 pub(crate) fn node_key(of: Nodes, number: u32) -> PageKey
     ensures { result ≡ page_key of.segment Image number }
 {

@@ -104,7 +104,7 @@ impl Beside {
         })
     }
 
-    /// The place of a pair in the list, or where it would be.
+    /// The place of a pair in the list, or the one that it would have.
     fn place(&self, code: Code) -> Result<usize, usize> {
         self.list.as_slice().binary_search(&code)
     }

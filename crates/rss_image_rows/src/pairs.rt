@@ -6,7 +6,7 @@ use rss_base::{KEY_BYTES, Key, Tid};
 /// A key of four bytes, a page and a slot, in one number: the order of the numbers is that of pairs.
 pub(crate) type Code = u64;
 
-/// What stands in a key behind its first four bytes.
+/// What stands in a key after its first four bytes.
 pub(crate) const FILLING: u8 = 7;
 
 /// The number of a pair.

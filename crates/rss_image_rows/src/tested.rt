@@ -7,7 +7,7 @@ use rss_images::{assert_same, assert_same_slices};
 use std::alloc::{AllocError, Global};
 use std::test::Fail;
 
-/// Stands where no next leaf is.
+/// Stands in place of a next leaf if there is none.
 const NO_PAGE: u32 = u32::MAX;
 
 /// How many bytes the header of a node has.
@@ -85,7 +85,7 @@ pub(crate) struct Tested {
 }
 
 impl Tested {
-    /// None as yet.
+    /// With no leaf.
     pub(crate) fn new(alloc: Global) -> Result<Self, AllocError> {
         let leaves = vec![in alloc; None; SLOTS as usize]?;
         Ok(Tested { leaves })

@@ -13,7 +13,7 @@ impl Draws {
         Draws { state }
     }
 
-    /// A number below a limit and below 2^31, and 0 where the limit is 0.
+    /// A number below a limit and below 2^31, and 0 if the limit is 0.
     pub fn below(&mut self, limit: u32) -> u32
         ensures below { 0 < limit → result < limit }
         ensures small { result ≤ limit }

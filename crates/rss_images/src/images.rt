@@ -36,8 +36,7 @@ pub fn image_at(
     Ok(device.image_at(alloc, moment, unsynced)?)
 }
 
-/// The device, but that its call with this number fails and no other, counted from 0 over all its
-/// calls.
+/// The device, but that its call `call` fails and no other, counted from 0 over all its calls.
 pub fn failing_at(alloc: Global, device: MemDevice, call: u64) -> Result<MemDevice, AllocError>
     ensures failing { IfOk result (λ failing. failing_calls failing ≡ call ∷ []) }
     ensures next { IfOk result (λ failing. next_call failing ≡ next_call device) }

@@ -1,6 +1,6 @@
-//! What tests have in common: assertions, each of which says of a case what was found in place of what
-//! was wanted, and numbers that look random; devices and pages in memory, with calls that fail, with
-//! bytes turned, stopped at any moment, and with contents of which proofs know nothing.
+//! What tests have in common: assertions, each of which says of a case what was found in place of
+//! what was wanted, and numbers that look random. Also devices and pages in memory, with calls that
+//! fail, with bytes turned, stopped at any moment, and with contents of which proofs know nothing.
 #![tactic(auto)]
 
 mod asserts;

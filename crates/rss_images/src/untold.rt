@@ -12,7 +12,7 @@ pub struct Untold<P: Pages> {
 }
 
 impl<P: Pages> Untold<P> {
-    /// These pages, none of which was asked for as yet.
+    /// These pages, none of which was asked for.
     pub fn new(pages: P) -> Self {
         Untold { pages, asks: 0 }
     }

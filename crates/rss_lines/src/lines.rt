@@ -23,7 +23,7 @@ pub struct Lines {
     taken: usize,
     over: bool,
     line: Vec<u8>,
-    /// What was read last. The bytes from `from` until `until` stand behind the line.
+    /// What was read last. The bytes from `from` until `until` stand after the line.
     piece: Vec<u8>,
     from: usize,
     until: usize,
@@ -72,17 +72,17 @@ impl Lines {
         self.line.as_slice()
     }
 
-    /// What was read behind the line.
+    /// What was read after the line.
     fn rest(&self) -> &[u8]
         ensures { result.now ≡ self.now.rest }
     {
         &self.piece[self.from..self.until]
     }
 
-    /// Finds the next line, and reads the source where none ends in what was read. The last line may
-    /// have no end. False where the script is over, and from then on: a source that was over isn't
-    /// read again. What an error cuts off is lost: the next call goes on behind the front of the line
-    /// that was looked through.
+    /// Finds the next line, and reads the source if none ends in what was read. The last line may
+    /// have no end. False if the script is over, and from then on: a source that was over isn't
+    /// read again. What an error cuts off is lost: the next call goes on after the front of the
+    /// line that was looked through.
     pub fn advance<O: Source>(&mut self, source: &mut O) -> Result<bool, Unread>
         ensures { Advances self.old self.new (O.view source.old) (O.view source.new) result }
     {
@@ -131,7 +131,7 @@ impl Lines {
         Ok(())
     }
 
-    /// Reads the next piece, where all that was read was passed. False at the source's end.
+    /// Reads the next piece, if all that was read was passed. False at the source's end.
     fn fill<O: Source>(&mut self, source: &mut O) -> Result<bool, Unread>
         requires going { self.old.over ≡ false }
         requires none { self.old.rest ≡ [] }

@@ -30,8 +30,9 @@ pub(crate) enum Standing {
     },
 }
 
-/// Which of two pointers: that to the tuple behind a child, or to the one before it. At the ends of a
-/// chain the next of what is before all is the first, and the previous of what is behind all the last.
+/// Which of two pointers: that to the tuple after a child, or to the one before it. At the ends of
+/// a chain the next of what is before all is the first, and the previous of what is after all the
+/// last.
 #[derive(Clone, Copy)]
 pub(crate) enum Pointer {
     Next,
@@ -41,7 +42,7 @@ pub(crate) enum Pointer {
 /// The bytes of a child's block.
 pub(crate) type Block = BoundedBytes<CHILD_BYTES>;
 
-/// The identifier in the six bytes from a place on, where they have one.
+/// The identifier in the six bytes from a place on, if they have one.
 pub(crate) fn pointer_at(bytes: &[u8], at: usize) -> Option<Tid>
     requires { at + 6 ≤ length bytes.now }
     ensures spelled { place_bytes result ≡ take 6 (drop at bytes.now) }
@@ -74,7 +75,7 @@ pub(crate) fn pointer_bytes(pointer: Option<Tid>) -> [u8; POINTER_BYTES]
     }
 }
 
-/// What the block at a place of a body says of a child. None exactly where the body is too short, or
+/// What the block at a place of a body says of a child. None exactly if the body is too short, or
 /// its bytes there are no such block.
 pub(crate) fn standing_at(body: &[u8], at: usize, unary: bool) -> Option<Standing>
     requires { at ≤ 65535 }
@@ -156,7 +157,7 @@ pub(crate) fn standing_bytes(standing: Standing, unary: bool) -> Block
     block
 }
 
-/// The ends that the block at a place of a parent's body says. None exactly where the body is too
+/// The ends that the block at a place of a parent's body says. None exactly if the body is too
 /// short.
 pub(crate) fn ends_at(body: &[u8], at: usize) -> Option<Ends>
     requires { at ≤ 65535 }

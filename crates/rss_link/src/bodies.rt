@@ -121,7 +121,7 @@ fn read<T: Tuples>(tuples: &mut T, segment: u8, tid: Tid, into: &mut Body) -> Re
     }
 }
 
-/// Why a tuple can't be read or written, where damage is that of this tuple.
+/// Why a tuple can't be read or written; damage is that of this tuple.
 fn fault_at(segment: u8, tid: Tid, fault: PageFault) -> PageFault
     requires { fault ≢ PageNoMemory }
     ensures at { IsFaultAt segment tid result }

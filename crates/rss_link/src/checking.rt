@@ -43,7 +43,7 @@ impl Chains {
         }
     }
 
-    /// How many children say that they stand in some chain. None where a child can be none of a link.
+    /// How many children say that they stand in some chain. None if a child can be none of a link.
     fn count_standing<T: Tuples>(
         &self,
         tuples: &mut T,
@@ -69,7 +69,7 @@ impl Chains {
         Ok(Some(count))
     }
 
-    /// Whether a tuple is a child and says that it stands in some chain. None where it is a child and
+    /// Whether a tuple is a child and says that it stands in some chain. None if it is a child and
     /// can be none of a link.
     fn says_place<T: Tuples>(
         &self,
@@ -158,8 +158,8 @@ impl Chains {
         Ok(left == 0)
     }
 
-    /// How many members the chain of a tuple has, where it is a parent, and 0 where it isn't. None
-    /// where a parent has no chain, or one of more than `most`.
+    /// How many members the chain of a tuple has, if it is a parent, and 0 if it isn't. None if a
+    /// parent has no chain, or one of more than `most`.
     fn walk_below<T: Tuples>(
         &self,
         ends: &Ends,
@@ -193,8 +193,8 @@ impl Chains {
         }
     }
 
-    /// How many members the chain of a parent with these ends has. None where there is no chain, or one
-    /// of more than `most`.
+    /// How many members the chain of a parent with these ends has. None if there is no chain, or
+    /// one of more than `most`.
     fn walk<T: Tuples>(
         &self,
         tuples: &mut T,
@@ -231,8 +231,8 @@ impl Chains {
         Ok(Some(count))
     }
 
-    /// What is behind a child in the chain of a parent. None where the child doesn't say that it stands
-    /// there behind `previous`.
+    /// What is after a child in the chain of a parent. None if the child doesn't say that it stands
+    /// there after `previous`.
     fn follow<T: Tuples>(
         &self,
         tuples: &mut T,
@@ -268,7 +268,7 @@ impl Chains {
     }
 }
 
-/// Whether a tuple is one of the relation of this number. If so, its body is put into `into`.
+/// Whether a tuple is one of the relation `number`. If so, its body is put into `into`.
 fn find<T: Tuples>(
     tuples: &mut T,
     segment: u8,

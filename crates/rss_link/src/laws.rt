@@ -21,7 +21,7 @@ pub fn spelled_once()
         → (parent : Option SomeTid) → other.lists parent ≡ one.lists parent }
 {}
 
-/// Only the link's blocks in the bodies of its own tuples matter: where these are as they were, the
+/// Only the link's blocks in the bodies of its own tuples matter: if these are as they were, the
 /// same chains are spelled.
 pub fn blocks_matter_alone()
     ensures { (link : SomeLink) (ends : SomeEnds) (old new : Bodies) (linkage : Linkage)
@@ -29,7 +29,7 @@ pub fn blocks_matter_alone()
         → SpellChains link ends old linkage → SpellChains link ends new linkage }
 {}
 
-/// Where no other bytes are changed than those of a link's blocks, as by a connect and a disconnect,
+/// If no other bytes are changed than those of a link's blocks, as by a connect and a disconnect,
 /// the chains of each link whose blocks lie elsewhere stay.
 pub fn other_links_stay()
     ensures { (link other : SomeLink) (ends : SomeEnds) (old new : Bodies) (linkage others : Linkage)
@@ -77,8 +77,8 @@ pub fn pointers_are_spelled()
         → place_bytes other ≡ place_bytes one → other ≡ one }
 {}
 
-/// Chains are spelled exactly where each tuple of the link's relations has the block of its prefix, and
-/// the lists are chains as the machine has them.
+/// Chains are spelled exactly if each tuple of the link's relations has the block of its prefix,
+/// and the lists are chains as the machine has them.
 pub fn spelled_by_blocks()
     ensures { (link : SomeLink) (ends : SomeEnds) (bodies : Bodies) (linkage : Linkage)
         → SpellChains link ends bodies linkage ↔ IsPrefixed link ends bodies linkage }

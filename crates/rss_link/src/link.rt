@@ -1,21 +1,21 @@
 // A link, and the ends of a chain.
 use rss_base::Tid;
 
-/// A link, and where its blocks stand in the bodies of its tuples.
+/// A link, and the places of its blocks in the bodies of its tuples.
 ///
-/// A unary link orders tuples of one relation, its members, in one chain. A binary link has a chain of
-/// children for each parent. The block of a member has 13 bytes, that of a child 18 and that of a
-/// parent 12.
+/// A unary link orders tuples of one relation, its members, in one chain. A binary link has a chain
+/// of children for each parent. The block of a member has 13 bytes, that of a child 18 and that of
+/// a parent 12.
 ///
-/// Its calls fail where the device does, and answer `Damaged` with a tuple that isn't there, whose body
-/// is too short or whose bytes there are no block, which never comes over a device that tells its
-/// contents.
+/// Its calls fail if the device does. They answer `Damaged` with a tuple that isn't there, whose
+/// body is too short or whose bytes there are no block. That never comes over a device that tells
+/// its contents.
 #[derive(Clone, Copy, Debug, PartialEq, Eq)]
 pub struct Chains {
     /// Its number in the catalog.
     pub link: u8,
     pub unary: bool,
-    /// From 1 to 8, and of no meaning where the link is unary.
+    /// From 1 to 8, and of no meaning if the link is unary.
     pub parent_segment: u8,
     pub child_segment: u8,
     /// The place of the link's block in the body of a parent.
@@ -35,6 +35,6 @@ pub struct Ends {
 #[derive(Clone, Copy, Debug, PartialEq, Eq)]
 pub struct Relations {
     pub child: u8,
-    /// Of no meaning where the link is unary.
+    /// Of no meaning if the link is unary.
     pub parent: u8,
 }

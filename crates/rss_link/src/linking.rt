@@ -20,8 +20,8 @@ use rss_base::{PageFault, Tid};
 use rss_tuple::Tuples;
 
 impl Chains {
-    /// Puts a child into the chain of a parent, or, where the link is unary and there is no parent,
-    /// into its one chain: right behind `left`, or first where that is None. The child's body is
+    /// Puts a child into the chain of a parent, or, if the link is unary and there is no parent,
+    /// into its one chain: right after `left`, or first if that is None. The child's body is
     /// written first, then that of `left` or the chain's first, then that of the tuple that is to
     /// follow or the chain's last. After an error nothing is known of them.
     pub fn connect<T: Tuples>(
@@ -82,7 +82,7 @@ impl Chains {
         self.turn(ends, tuples, Pointer::Previous, parent, next, previous)
     }
 
-    /// The first tuple behind `left` in the chain of a parent, or of all where that is None.
+    /// The first tuple after `left` in the chain of a parent, or of all if that is None.
     fn behind<T: Tuples>(
         &self,
         ends: &Ends,
@@ -127,8 +127,8 @@ impl Chains {
         put(tuples, self.child_segment, child, at, block.as_slice())
     }
 
-    /// Turns the next or the previous pointer of a child to another tuple, or an end of the chain of
-    /// its parent where `from` is None.
+    /// Turns the next or the previous pointer of a child to another tuple, or an end of the chain
+    /// of its parent if `from` is None.
     fn turn<T: Tuples>(
         &self,
         ends: &mut Ends,

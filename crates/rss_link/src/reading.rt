@@ -14,7 +14,7 @@ use rss_tuple::Tuples;
 
 impl Chains {
     /// The first child of a parent, or the first member of a unary link, which has no parent. None
-    /// exactly where the chain is empty.
+    /// exactly if the chain is empty.
     pub fn first<T: Tuples>(
         &self,
         ends: &Ends,
@@ -46,7 +46,7 @@ impl Chains {
         Ok(self.ends(ends, tuples, parent)?.last)
     }
 
-    /// The tuple right behind a child in its chain. None exactly where there is none, or the child is
+    /// The tuple right after a child in its chain. None exactly if there is none, or the child is
     /// in no chain.
     pub fn after<T: Tuples>(&self, tuples: &mut T, child: Tid) -> Result<Option<Tid>, PageFault>
         requires { MayAsk self.now (T.view tuples.old) child }
@@ -75,7 +75,7 @@ impl Chains {
         })
     }
 
-    /// The parent of the chain that has a child. None exactly where the child is in no chain, or the
+    /// The parent of the chain that has a child. None exactly if the child is in no chain, or the
     /// link is unary.
     pub fn parent<T: Tuples>(&self, tuples: &mut T, child: Tid) -> Result<Option<Tid>, PageFault>
         requires { MayAsk self.now (T.view tuples.old) child }

@@ -89,7 +89,7 @@ impl Locks {
 
     /// Makes room, so that so many items can be taken without memory. A failure changes nothing.
     ///
-    /// Where the table is full it first forgets what was released, and then has room for as many
+    /// If the table is full, it first forgets what was released, and then has room for as many
     /// items again as are held.
     pub fn reserve(&mut self, more: u32) -> Result<(), AllocError>
         ensures ok { OnOk result (more ≤ (told self.new).spare) }
@@ -183,7 +183,7 @@ impl Locks {
         Ok(())
     }
 
-    /// The least transaction besides this one that holds the item in a mode that disagrees.
+    /// The least transaction other than `besides` that holds the item in a mode that disagrees.
     fn least_barring(&self, item: &Item, mode: Mode, besides: Option<u32>) -> Option<u32>
         ensures { IsLeastOf (Disagrees (mode_of self.now) item.now mode besides) result }
     {

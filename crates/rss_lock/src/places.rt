@@ -31,8 +31,8 @@ pub(crate) struct Holders {
     ghost free: { (place : ℕ) → end ≤ place → slice_index_or places place None ≡ None },
 }
 
-/// Who holds an item: the mode of the transaction in each place. It counts where that transaction
-/// had its place when the item was last granted, and is a lock that was released where not.
+/// Who holds an item: the mode of the transaction in each place. It counts if that transaction had
+/// its place when the item was last granted, and otherwise is a lock that was released.
 #[derive(Clone, Copy)]
 pub(crate) struct Grants {
     pub(crate) modes: [Option<Mode>; HOLDERS_MOST],
@@ -85,7 +85,7 @@ impl Holders {
         true
     }
 
-    /// The place of a transaction, which gets one where it has none.
+    /// The place of a transaction, which gets one if it has none.
     pub(crate) fn place_for(&mut self, firsts: &mut u64, transaction: u32) -> usize
         requires few { HasRoomFor transaction self.old.places }
         requires more { firsts.old + 1 < 2 ^ 64 }
@@ -172,8 +172,8 @@ pub(crate) fn is_held(holders: &Holders, grants: &Grants) -> bool
     current(holders, grants).iter().any(|mode| mode.is_some())
 }
 
-/// The identifier of an item, if it is a tuple of one of these relations that a transaction besides
-/// this one holds.
+/// The identifier of an item, if it is a tuple of one of these relations that a transaction other
+/// than this one holds.
 pub(crate) fn barred_tid(
     holders: &Holders,
     transaction: u32,
@@ -196,7 +196,7 @@ pub(crate) fn barred_tid(
     Some(*tid)
 }
 
-/// The least transaction besides this one whose mode disagrees.
+/// The least transaction other than `besides` whose mode disagrees.
 pub(crate) fn least_disagreeing(
     holders: &Holders,
     modes: &[Option<Mode>; HOLDERS_MOST],
@@ -214,7 +214,7 @@ pub(crate) fn least_disagreeing(
     least
 }
 
-/// The transaction of a place, if its mode disagrees and it isn't the one besides.
+/// The transaction of a place, if its mode disagrees and it isn't `besides`.
 fn disagreeing(
     holder: Option<Holder>,
     held: Option<Mode>,

@@ -16,8 +16,8 @@ pub fn spelled_once()
         → Parses bytes from ps until → Parses bytes from qs until_too → ps ≡ qs }
 {}
 
-/// Where the log's bytes are those of records, each of them stands at its position, with the next
-/// one behind it.
+/// If the log's bytes are those of records, each of them stands at its position, with the next one
+/// after it.
 pub fn listed_records_stand()
     ensures { (log : LogView) (before after : List Placed) (p : Placed)
         → HasRecords log (before ++ p ∷ after)
@@ -32,8 +32,8 @@ pub fn old_log_stays()
         → log_bytes image root ≡ log_bytes before root }
 {}
 
-/// Where the full pieces of a log stand in their pages, the log of the root that was last written
-/// has grown by the bytes that were appended since, and the tail is the log's.
+/// If the full pieces of a log stand in their pages, the log of the root that was last written has
+/// grown by the bytes that were appended since, and the tail is the log's.
 pub fn pieces_grow()
     ensures { (log : LogView) (root : SomeRoot) (more : List ℕ) (pages : DevicePages) → IsLog log
         → piece_start log.head ≤ piece_start root.end → log.end ≡ root.end + length more
@@ -43,7 +43,7 @@ pub fn pieces_grow()
         → Grows root more pages log.end (tail_of log) }
 {}
 
-/// A root whose log has more records behind those of the old root, and a head behind some of them,
+/// A root whose log has more records after those of the old root, and a head after some of them,
 /// has the rest of them all.
 pub fn next_log_follows()
     ensures { (pages : DevicePages) (root next : SomeRoot) (more : List ℕ)

@@ -110,7 +110,7 @@ impl Log {
         self.ring.len() as u64 - 1 - (self.end - self.head / PIECE_LENGTH * PIECE_LENGTH)
     }
 
-    /// Puts a record behind the others, and answers its position.
+    /// Puts a record after the others, and answers its position.
     pub fn append(&mut self, record_value: &LogRecord) -> u64
         requires bounded { IsBounded record_value.now }
         requires room { record_size record_value.now ≤ free_of self.old }
@@ -127,7 +127,7 @@ impl Log {
         at
     }
 
-    /// The record that begins at a position, and the position behind it.
+    /// The record that begins at a position, and the position after it.
     pub fn read_at(&self, position: u64) -> (LogRecord, u64)
         requires low { self.now.head ≤ position }
         requires high { position ≤ self.now.end }
@@ -142,8 +142,8 @@ impl Log {
         }
     }
 
-    /// The record that begins at a position, and the position behind it; none exactly where the
-    /// bytes from there up to the end begin with no record.
+    /// The record that begins at a position, and the position after it; none exactly if the bytes
+    /// from there up to the end begin with no record.
     pub fn try_at(&self, position: u64) -> Option<(LogRecord, u64)>
         requires low { self.now.head ≤ position }
         requires high { position ≤ self.now.end }
@@ -181,7 +181,7 @@ impl Log {
         copy(&self.ring, number * PIECE_LENGTH, &mut into[..PIECE_BYTES]);
     }
 
-    /// The bytes behind the last full piece.
+    /// The bytes after the last full piece.
     pub fn tail(&self, into: &mut Tail)
         ensures { into.new ≡ tail_of self.now }
     {
@@ -209,7 +209,7 @@ fn new_ring(alloc: Global, log_pages: u32) -> Result<Vec<u8>, OpenFault>
     }
 }
 
-/// Reads the full pieces of a log into a ring, and puts the last part behind them.
+/// Reads the full pieces of a log into a ring, and puts the last part after them.
 fn read_log<D: Device>(
     device: &mut D,
     first_page: u64,

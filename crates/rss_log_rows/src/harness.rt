@@ -90,7 +90,7 @@ pub(crate) fn body_of(bytes: &[u8]) -> Result<Body, Fail> {
     Ok(body)
 }
 
-/// Appends a record, where it has room.
+/// Appends a record, if it has room.
 pub(crate) fn append(
     alloc: Global,
     log: &mut Log,
@@ -103,7 +103,7 @@ pub(crate) fn append(
     Ok(Some(log.append(record_value)))
 }
 
-/// The record at a position from head to end, and the position behind it.
+/// The record at a position from head to end, and the position after it.
 pub(crate) fn try_at(log: &Log, position: u64) -> Result<Option<(LogRecord, u64)>, Fail> {
     if position < log.head() || position > log.end() {
         return Err("no position of the log".into());
@@ -119,7 +119,7 @@ pub(crate) fn set_head(log: &mut Log, head: u64) -> Result<(), Fail> {
     Ok(())
 }
 
-/// A full piece, where it is kept.
+/// A full piece, if it is kept.
 pub(crate) fn piece(log: &Log, number: u64, into: &mut Page) -> Result<(), Fail> {
     if number < log.head() / 4000 || number >= log.end() / 4000 {
         return Err("no full piece of the log".into());
@@ -128,7 +128,7 @@ pub(crate) fn piece(log: &Log, number: u64, into: &mut Page) -> Result<(), Fail>
     Ok(())
 }
 
-/// Loads a log whose pages are the last of a device, where its numbers are those of a log.
+/// Loads a log whose pages are the last of a device, if its numbers are those of a log.
 pub(crate) fn load<D: Device>(
     alloc: Global,
     device: &mut D,

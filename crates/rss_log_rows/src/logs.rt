@@ -99,7 +99,7 @@ fn drop_oldest(trial: &mut Trial) -> Result<(), Fail> {
     set_head(&mut trial.log, head)
 }
 
-/// Appends a record to both, where the log has room once the oldest ones are given up.
+/// Appends a record to both, if the log has room once the oldest ones are given up.
 fn add(alloc: Global, trial: &mut Trial, added: &LogRecord) -> Result<(), Fail> {
     let bytes = bytes_of(alloc, added)?;
     for _ in 0..RECORDS {
@@ -131,7 +131,7 @@ fn save_and_load(alloc: Global, trial: &mut Trial) -> Result<(), Fail> {
     Ok(())
 }
 
-/// The log has a record at a position. Answers the position behind it.
+/// The log has a record at a position. Answers the position after it.
 fn assert_at(alloc: Global, trial: &Trial, position: u64, want: &[u8]) -> Result<u64, Fail> {
     let case = ("log pages", trial.pages, "position", position);
     let (found, next) = assert_some(try_at(&trial.log, position)?, case)?;
@@ -140,7 +140,7 @@ fn assert_at(alloc: Global, trial: &Trial, position: u64, want: &[u8]) -> Result
     Ok(next)
 }
 
-/// The log has the records of the list, one behind the other from head to end.
+/// The log has the records of the list, one after another from head to end.
 fn assert_listed(alloc: Global, trial: &Trial) -> Result<(), Fail> {
     let mut position = trial.log.head();
     for (at, bytes) in &trial.list {
@@ -200,11 +200,11 @@ const LAST: &[u8] = b"\x09\0\x09";
 const POSITIONS: [(u64, bool); 3] = [(HEAD, false), (20_000, true), (20_002, false)];
 
 /// Bytes of the page of its third piece, by their places: the last of the piece, and the first
-/// behind it, which is as it was.
+/// after it, which is as it was.
 const BYTES: [(usize, u8); 2] = [(3999, 0x55), (4000, 0xee)];
 
-/// The calls of a load of it, where one fails: behind the one that asks for the size it reads four
-/// pages, and there is no sixth.
+/// The calls of a load of it, of which one fails. After the one that asks for the size it reads
+/// four pages, and there is no sixth.
 const CALLS: [(u64, Option<OpenFault>); 5] = [
     (1, Some(OpenFault::Device)),
     (2, Some(OpenFault::Device)),

@@ -207,7 +207,7 @@ const NO_RECORDS: [(&str, &[u8]); 9] = [
     ("a checkpoint of 33", b"\x09\x21"),
 ];
 
-/// Neither such bytes are read nor they with zeros behind them.
+/// Neither such bytes are read nor they with zeros after them.
 fn assert_unread(alloc: Global, name: &str, front: &[u8]) -> Result<(), Fail> {
     let mut bytes = Vec::from_slice(alloc, front)?;
     assert_same(&read_record(&bytes).is_some(), &false, name)?;

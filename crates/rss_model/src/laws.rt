@@ -27,16 +27,16 @@ pub fn what_commits()
     ensures no_trace { OpenLeavesNoTrace }
 {}
 
-/// Whatever step the machine makes, it keeps what is said to be kept, and so does a machine where
-/// nothing is open. The store's size stays.
+/// Whatever step the machine makes, it keeps what is said to be kept, and so does a machine in
+/// which nothing is open. The store's size stays.
 pub fn steps_keep()
     ensures steps { StepsKeep }
     ensures rest { RestKeeps }
     ensures size { StepsLeaveSize }
 {}
 
-/// The committed tables fit, those now, and the committed ones with what one transaction had made at
-/// any time. An item is changed by one transaction alone, from what is committed to what is there
+/// The committed tables fit, those now, and the committed ones with what one transaction had made
+/// at any time. An item is changed by only one transaction, from what is committed to what is there
 /// now.
 pub fn kept_tables()
     ensures fit { KeptFit }
@@ -52,7 +52,7 @@ pub fn room_is_kept()
 {}
 
 /// From a checkpoint on, there are two spare pages for each change that is still to be made, undone
-/// or made again, in a restart and in a session, as long as none has taken more than two.
+/// or made again. So it is in a restart and in a session, as long as none has taken more than two.
 pub fn pages_are_spare()
     ensures number { NumberLeavesRoom }
     ensures restart { SparesTwo times_in_restart }
@@ -60,8 +60,8 @@ pub fn pages_are_spare()
     ensures more { MakesOnceMore }
 {}
 
-/// What a session keeps from a checkpoint on, whatever it makes and takes back: so there is room for
-/// taking back all changes that are listed, and for the next one where the room number allows it.
+/// What a session keeps from a checkpoint on, whatever it makes and takes back. So there is room
+/// for taking back all changes that are listed, and for the next one if the room number allows it.
 pub fn sessions_have_room()
     ensures begins { SessionBegins }
     ensures changes { SessionChanges }
@@ -71,13 +71,13 @@ pub fn sessions_have_room()
     ensures next { SparesForNext }
 {}
 
-/// From where nothing is open, a run commits what its transactions commit one after another, in
-/// the order of their ends, with the replies that they got.
+/// From a state in which nothing is open, a run commits what its transactions commit one after
+/// another, in the order of their ends, with the replies that they got.
 pub fn runs_are_serial()
     ensures { IsSerial }
 {}
 
-/// An insert is refused for want of a free identifier exactly where there is none.
+/// An insert is refused for want of a free identifier exactly if there is none.
 pub fn free_identifiers()
     ensures { FreeIsFound }
 {}
@@ -101,7 +101,7 @@ pub fn exact_rule()
     ensures saved { SavedGoesOn }
 {}
 
-/// By it there is always room, for all pages and in the log for what it owes: a change that is let
+/// By it there is always room, for all pages and in the log for what it owes. A change that is let
 /// through, a checkpoint that isn't refused, a way back, an end and a definition each leave it so.
 pub fn rooms_are_kept()
     ensures changes { ChangesKeepRooms }
@@ -140,8 +140,8 @@ pub fn restart_recovers()
     ensures { (from until : ℕ) (tables base : Contents) (older newer : List Placed) → Rise from (older ++ newer) until → Recovers tables older newer base → Restarts tables older newer base }
 {}
 
-/// Where an engine's log is tied to the machine, what is on the disk recovers the machine's
-/// committed tables, whatever is in memory alone.
+/// If an engine's log is tied to the machine, what is on the disk recovers the machine's committed
+/// tables, whatever is only in memory.
 pub fn ties_recover()
     ensures { (base : Contents) (changes : List Change) (tables : Contents) (log : Log) → Ties base changes tables log → Recovers tables log.older log.written base }
 {}

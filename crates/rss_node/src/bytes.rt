@@ -5,7 +5,7 @@ ghost use Rattle.rss_node.specs.Nodes.{part};
 
 use rss_base::{Page, put_bytes};
 
-/// Writes bytes from a place on, and behind them those that stood from one place to another.
+/// Writes bytes from a place on, and after them those that stood from one place to another.
 pub(crate) fn put_and_move(page: &mut Page, at: usize, bytes: &[u8], from: usize, end: usize)
     requires order { from ≤ end }
     requires within { end ≤ page_bytes }

@@ -25,8 +25,8 @@ pub fn pairs_are_their_bytes()
         → pair_bytes (key_from width bytes) (tid_from width bytes) ≡ bytes }
 {}
 
-/// A page that spells a node is a node's page by the definition of the base, where the identifiers
-/// of its entries name entries that a page may have.
+/// A page that spells a node is a node's page by the definition of the base, if the identifiers of
+/// its entries name entries that a page may have.
 pub fn pages_are_node_pages()
     ensures { (page : List ℕ) (node : NodeView) → Spells page node
         → AllByRecursion (HasSlot node.width) node.entries

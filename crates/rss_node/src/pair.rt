@@ -15,5 +15,5 @@ pub struct Nodes {
     pub width: u8,
 }
 
-/// Stands where no next leaf is.
+/// Stands in place of a next leaf if there is none.
 pub const NO_PAGE: u32 = 0xffff_ffff;

@@ -14,7 +14,7 @@ pub(crate) const UNMAPPED: u16 = 0;
 /// The mark of a mapped page without a note. It is no less than any that tells of a note.
 pub(crate) const UNNOTED: u16 = u16::MAX;
 
-/// The column of a space in a segment, where its pages are noted.
+/// The column of a space in a segment, if its pages are noted.
 pub(crate) fn column_at(space: Space, segment: u8) -> Option<usize>
     ensures place { result ≡ column_at space segment }
     ensures within { IfSome result (λ column. column < 16) }
@@ -30,7 +30,7 @@ pub(crate) fn column_at(space: Space, segment: u8) -> Option<usize>
     }
 }
 
-/// The mark of a page, and 0 where it can have none.
+/// The mark of a page, and 0 if it can have none.
 pub(crate) fn mark_of(columns: &[Maxima], key: PageKey) -> u16
     requires { length columns.now ≡ 16 }
     ensures { result ≡ mark_of columns.now key }
@@ -47,7 +47,7 @@ pub(crate) fn mark_of(columns: &[Maxima], key: PageKey) -> u16
     }
 }
 
-/// Gives a page this mark, where it can have one.
+/// Gives a page this mark, if it can have one.
 pub(crate) fn put_mark(columns: &mut [Maxima], key: PageKey, mark: u16)
     requires { length columns.old ≡ 16 }
     ensures { columns.new ≡ with_mark columns.old key mark }

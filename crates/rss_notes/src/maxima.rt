@@ -133,7 +133,7 @@ fn start_of(bits: u32) -> usize
     }
 }
 
-/// The first place behind those that are like this one but for so many low bits.
+/// The first place after those that are like this one but for so many low bits.
 fn behind_group(at: usize, bits: u32) -> usize
     requires within { at < NUMBERS_MOST }
     requires level { IsLevel bits }

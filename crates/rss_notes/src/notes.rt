@@ -65,7 +65,7 @@ impl Notes {
         put_mark(&mut self.columns, key, UNMAPPED);
     }
 
-    /// The page has no note from now on. Nothing is written where it has none.
+    /// The page has no note from now on. Nothing is written if it has none.
     pub fn forget(&mut self, key: PageKey)
         ensures { Marks (told self.old) (told self.new) key ((told self.old).mapped key) None }
     {
@@ -75,7 +75,7 @@ impl Notes {
         }
     }
 
-    /// Notes a number on a page, in place of what was noted before. It does nothing where the page
+    /// Notes a number on a page, in place of what was noted before. It does nothing if the page
     /// isn't mapped.
     pub fn note(&mut self, key: PageKey, number: u16)
         requires { number ≤ note_most }
@@ -87,8 +87,8 @@ impl Notes {
         }
     }
 
-    /// The first mapped page of a segment and a space, from this number on, that has no note or one
-    /// of at least `least`.
+    /// The first mapped page of a segment and a space, from `from` on, that has no note or one of
+    /// at least `least`.
     pub fn first_noted(&self, segment: u8, space: Space, from: u32, least: u16) -> Option<u32>
         ensures some { IfSome result (IsFirstFrom
             (MayDo (told self.now).mapped (told self.now).notes least segment space) from) }

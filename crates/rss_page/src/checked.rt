@@ -8,7 +8,7 @@ use crate::directory::entry_bytes_at;
 use crate::entry_form::Entry;
 use rss_base::Page;
 
-/// The entry of a slot, where it is spelled as it should be and may stand in a page of this space.
+/// The entry of a slot, if it is spelled as it should be and may stand in a page of this space.
 /// Nothing else of the page is looked at.
 #[inline(always)]
 pub fn checked_entry(page: &Page, slot: u8) -> Option<Entry>
@@ -26,7 +26,7 @@ pub fn checked_entry(page: &Page, slot: u8) -> Option<Entry>
     }
 }
 
-/// Lends so many bytes of a page from a place on, where a body may stand there.
+/// Lends so many bytes of a page from a place on, if a body may stand there.
 pub fn bytes_at(page: &Page, place: u16, length: u16) -> &[u8]
     requires { IsBody place length }
     ensures { result.now ≡ part page.now place length }

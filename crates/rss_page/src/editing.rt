@@ -39,8 +39,9 @@ pub fn forward_at(page: &mut Page, slot: u8, to_page: u32, to_slot: u8)
     set_entry(page, slot, forward);
 }
 
-/// Gives an entry a body, whatever it held. Where the free bytes behind the last of the other bodies
-/// suffice, the body goes there and these stay in their places; else they are moved together first.
+/// Gives an entry a body, whatever it held. If the free bytes after the last of the other bodies
+/// suffice, the body goes there and these stay in their places; otherwise they are moved together
+/// first.
 pub fn put_at(page: &mut Page, slot: u8, body: &[u8])
     requires slotted { IsSlotted page.old }
     requires slot { slot < page_entries }
@@ -54,9 +55,9 @@ pub fn put_at(page: &mut Page, slot: u8, body: &[u8])
     overwrite(page, slot, end, body);
 }
 
-/// The same, by what a walk has found in the page. A body that isn't longer than the one that stands
-/// there takes its place. Then, and where the free bytes behind the last body suffice, no other entry
-/// is looked at.
+/// The same, by what a walk has found in the page. A body that isn't longer than the one that
+/// stands there takes its place. Then, and if the free bytes after the last body suffice, no other
+/// entry is looked at.
 pub fn put_found(page: &mut Page, slot: u8, body: &[u8], found: &Survey)
     requires may { MayPut page.old slot body.now }
     requires found { IsSurvey page.old found.now }
@@ -87,7 +88,7 @@ pub fn own_place(page: &Page, slot: u8, length: u16) -> Option<u16>
     if length <= own { Some(place) } else { None }
 }
 
-/// Finds the place behind all bodies, with so many free bytes there.
+/// Finds the place after all bodies, with so many free bytes there.
 fn make_room(page: &mut Page, length: u16) -> u16
     requires slotted { IsSlotted page.old }
     requires room { body_bytes (entries page.old) + length ≤ bodies_room }
@@ -106,8 +107,8 @@ fn make_room(page: &mut Page, length: u16) -> u16
     PAGE_END - found.free
 }
 
-/// Moves the bodies together, so that all free bytes stand behind the last one. Each entry holds what
-/// it held.
+/// Moves the bodies together, so that all free bytes stand after the last one. Each entry holds
+/// what it held.
 pub fn compact(page: &mut Page)
     requires { IsSlotted page.old }
     ensures becomes { Becomes page.old page.new (entries page.old) }
@@ -130,7 +131,7 @@ fn clear(page: &mut Page)
     put_bytes(page, HEADER_BYTES, &[0; DIRECTORY_BYTES]);
 }
 
-/// Gives an entry what it holds in another page, with the body, if there is one, behind all others.
+/// Gives an entry what it holds in another page, with the body, if there is one, after all others.
 /// Answers where the last body ends then.
 fn carry(from: &Page, page: &mut Page, slot: u8, end: u16) -> u16
     requires from { IsSlotted from.now }

@@ -55,7 +55,7 @@ impl Entry {
         }
     }
 
-    /// The entry that the bytes spell, where they spell one.
+    /// The entry that the bytes spell, if they spell one.
     #[inline(always)]
     pub(crate) fn decode(bytes: &[u8; ENTRY_BYTES]) -> Self
         ensures { result ≡ entry_from bytes.now }
@@ -74,7 +74,7 @@ impl Entry {
         }
     }
 
-    /// The entry that the bytes are, where they are those of one.
+    /// The entry that the bytes are, if they are those of one.
     #[inline(always)]
     pub(crate) fn spelled(bytes: &[u8; ENTRY_BYTES]) -> Option<Self>
         ensures some { IfSome result (λ entry. entry ≡ entry_from bytes.now) }
@@ -107,7 +107,7 @@ impl Entry {
         }
     }
 
-    /// Whether the body, if there is one, begins at this place or behind it.
+    /// Whether the body, if there is one, begins at this place or after it.
     #[inline(always)]
     pub(crate) fn stands_from(self, from: u16) -> bool
         ensures { IsTrue result ↔ StandsFrom from self }

@@ -23,13 +23,13 @@ pub fn blank(key: PageKey) -> Page
     page
 }
 
-/// What a walk over the directory finds, where the bytes are a well-formed page of this key: where
-/// the header is that of the key, each entry is one of the three kinds, with zeros where there are to
-/// be zeros and with a place and a length, or a slot, that are in range, and no byte belongs to two
+/// What a walk over the directory finds, if the bytes are a well-formed page of this key. Then the
+/// header is that of the key, and each entry is one of the three kinds. It has zeros where there
+/// are to be zeros, and a place and a length, or a slot, that are in range. No byte belongs to two
 /// bodies. Whether a forward leads to a body is not tested.
 ///
-/// One walk is enough where the bodies stand in the order of their slots, as in a page that was
-/// filled slot by slot or compacted.
+/// One walk is enough if the bodies stand in the order of their slots, as in a page that was filled
+/// slot by slot or compacted.
 pub fn survey(page: &Page, key: PageKey) -> Option<Survey>
     ensures formed { IsSome result ↔ IsWellFormed key page.now }
     ensures found { IfSome result (IsSurvey page.now) }

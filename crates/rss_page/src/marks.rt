@@ -10,7 +10,7 @@ use rss_base::PAGE_BYTES;
 /// For each byte of a page a bit, the low bits of a word for its first bytes.
 pub(crate) type Marks = [u64; PAGE_BYTES / 64];
 
-/// Marks the bytes of an entry's body, where none of them is marked yet.
+/// Marks the bytes of an entry's body, if none of them is marked yet.
 pub(crate) fn claim(marks: &mut Marks, entry: Entry) -> bool
     requires { IsWithin entry }
     ensures claimed { OnTrue result (Claims marks.old entry marks.new) }

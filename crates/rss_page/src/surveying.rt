@@ -24,7 +24,7 @@ const NOTHING: Survey = Survey {
 pub struct Survey {
     /// How many bytes of the 3,056 belong to no body.
     pub free: u16,
-    /// Where the last body ends, and 1,040 where there is none.
+    /// Where the last body ends, and 1,040 if there is none.
     pub end: u16,
     /// The least slot with an empty entry.
     pub first_empty: Option<u8>,
@@ -56,8 +56,8 @@ impl Survey {
         }
     }
 
-    /// Looks at each entry of any bytes, where they are a page's and the bodies stand in the order
-    /// of their slots.
+    /// Looks at each entry of any bytes, if they are a page's and the bodies stand in the order of
+    /// their slots.
     pub(crate) fn of_ordered(page: &Page) -> Option<Self>
         ensures ordered { IsSome result ↔ IsOrdered page.now }
         ensures found { IfSome result (IsSurvey page.now) }
@@ -73,7 +73,7 @@ impl Survey {
         Some(found)
     }
 
-    /// Whether a body of this length fits at a slot, where what the slot holds now is given up. The
+    /// Whether a body of this length fits at a slot, if what the slot holds now is given up. The
     /// page is that of the walk, as it was then.
     pub fn has_room(&self, page: &Page, slot: u8, length: u16) -> bool
         requires slotted { IsSlotted page.now }

@@ -164,7 +164,7 @@ fn assert_patched(patches: &[Row]) -> Result<(), Fail> {
     Ok(())
 }
 
-/// Two bodies, each with its place and its length, that of the lesser slot behind the other, and
+/// Two bodies, each with its place and its length, that of the lesser slot after the other, and
 /// whether they are apart: within one word of 64 bytes, at its ends, and over many.
 const PAIRS: [([u16; 2], [u16; 2], bool); 9] = [
     ([1100, 9], [1091, 9], true),

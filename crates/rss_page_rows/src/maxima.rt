@@ -19,14 +19,14 @@ fn scan(numbers: &[u16], from: usize, least: u16) -> Option<usize> {
     None
 }
 
-/// Sets a number, where there is such a place.
+/// Sets a number, if there is such a place.
 fn set(numbers: &mut Maxima, place: usize, number: u16) {
     if place < numbers.len() {
         numbers.set(place, number);
     }
 }
 
-/// Sets a number, where there is such a place, and then looks for one.
+/// Sets a number, if there is such a place, and then looks for one.
 fn change(draws: &mut Draws, numbers: &mut Maxima, plain: &mut Vec<u16>) -> Result<(), Fail> {
     let len = numbers.len();
     let place = draws.below(len as u32) as usize;
@@ -62,8 +62,8 @@ fn the_first_number_is_that_of_a_scan(rt: HostRuntime) -> Result<(), Fail> {
     Ok(())
 }
 
-/// One number of 7 at a place is found exactly where it is looked for from that place or before, by
-/// no more than 7.
+/// One number of 7 at a place is found exactly if it is looked for from that place or before, by no
+/// more than 7.
 fn assert_alone(numbers: &Maxima, place: usize) -> Result<(), Fail> {
     for (from, least, want) in [
         (0, 7, Some(place)),

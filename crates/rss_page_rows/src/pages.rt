@@ -13,7 +13,7 @@ fn fill(buffer: &mut Buffer, first: u8) {
     }
 }
 
-/// Puts a body into the page and into the list, exactly where it fits.
+/// Puts a body into the page and into the list, exactly if it fits.
 fn put(
     page: &mut Slotted,
     plain: &mut Plain,
@@ -36,7 +36,8 @@ fn put(
     Ok(())
 }
 
-/// One change: a body at five of eight, else a forward, an empty entry, or bodies moved together.
+/// One change: a body at five of eight, otherwise a forward, an empty entry, or bodies moved
+/// together.
 fn step(
     draws: &mut Draws,
     page: &mut Slotted,

@@ -65,7 +65,7 @@ impl Slotted {
         Survey::of(&self.page).has_room(&self.page, slot, length)
     }
 
-    /// Puts a body, where it fits, by a survey at each other slot.
+    /// Puts a body, if it fits, by a survey at each other slot.
     pub(crate) fn put(&mut self, slot: u8, body: &[u8]) -> bool
         requires { slot < page_entries }
     {
@@ -84,7 +84,7 @@ impl Slotted {
         true
     }
 
-    /// Puts a forward to a slot, where a page has it.
+    /// Puts a forward to a slot, if a page has it.
     pub(crate) fn forward(&mut self, slot: u8, to_page: u32, to_slot: u8)
         requires { slot < page_entries }
     {

@@ -109,7 +109,7 @@ impl Reading {
         Ok(())
     }
 
-    /// Takes the next entry, or, behind the last one, zeros.
+    /// Takes the next entry, or, after the last one, zeros.
     fn take_entry(&mut self, entry: &Entry) -> Result<(), OpenFault>
         requires { IsReading self.old }
         ensures reading { OnOk result (IsReading self.new) }
@@ -140,7 +140,7 @@ impl Reading {
         Ok(())
     }
 
-    /// The table, where all its entries were taken.
+    /// The table, if all its entries were taken.
     fn into_table(self) -> SlotTable
         requires reading { IsReading self }
         requires all { length self.owners.items ≡ self.slots }

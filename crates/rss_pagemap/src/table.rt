@@ -8,8 +8,8 @@ use rss_base::PageKey;
 use std::alloc::{AllocError, Global};
 use std::marker::Model;
 
-/// The page that each slot of a store holds, where it isn't free. Every page is one that the map
-/// may name, and none has two slots.
+/// The page that each slot of a store holds, if it isn't free. Every page is one that the map may
+/// name, and none has two slots.
 #[derive(Drop)]
 pub struct SlotTable {
     owners: Vec<Option<PageKey>>,

@@ -50,7 +50,7 @@ impl SlotTable {
         }
     }
 
-    /// Fills a page with the entries of its slots, and zeros behind the last one.
+    /// Fills a page with the entries of its slots, and zeros after the last one.
     fn fill_page(&self, at: u32, page: &mut Page)
         requires { at < slots_most / map_entries }
         ensures { HasEntries self.now (map_entries * at) map_entries page.new }
@@ -62,7 +62,7 @@ impl SlotTable {
         }
     }
 
-    /// The entry of a slot, or zeros behind the last one.
+    /// The entry of a slot, or zeros after the last one.
     fn entry(&self, slot: u32) -> Entry
         ensures { result ≡ entry_bytes (owner_of self.now slot) }
     {

@@ -24,8 +24,8 @@ const KEPT: usize = 60;
 const FRAMES: u32 = 8;
 
 /// How many calls of the device an opening takes, and how many there are when the second round is
-/// done: after the opening's, 25 reads, four writes of the eight pages that are in memory, one of
-/// the map, and the four calls of a switch.
+/// done. After the opening's come 25 reads, four writes of the eight pages that are in memory, one
+/// of the map, and the four calls of a switch.
 pub(crate) const OPENING: u64 = 5;
 
 const DONE: u64 = 39;
@@ -35,7 +35,7 @@ type Rounds = [Option<u8>; KEPT];
 
 const FIRST_ROUND: Rounds = [Some(1); KEPT];
 
-/// Reads where the device's second one fails: the page that is read, and whether it is found.
+/// Reads of which the device's second one fails: the page that is read, and whether it is found.
 const READS_OF_TWO: [(&str, u32, bool); 6] = [
     ("once", 0, true),
     ("twice", 0, true),
@@ -45,7 +45,7 @@ const READS_OF_TWO: [(&str, u32, bool); 6] = [
     ("at last", 0, true),
 ];
 
-/// Reads behind those of nine pages, where the device's tenth one fails. The first page is in
+/// Reads after those of nine pages, of which the device's tenth one fails. The first page is in
 /// memory and the second isn't, which wasn't used for the longest time.
 const READS_AFTER_NINE: [(&str, u32, bool); 2] = [
     ("the first page", 0, true),
@@ -72,7 +72,7 @@ pub(crate) enum Step {
     /// Fills a log page with a byte.
     Piece(u32, u8),
     Save(u8),
-    /// From the root of this number to one with this area.
+    /// From the root with the first number to one with this area.
     Switch(u8, u8),
     Adopt,
 }
@@ -91,7 +91,7 @@ const SECOND_SAVE_WITH_PIECES: [Step; 5] = [
     Step::Adopt,
 ];
 
-/// A page of these numbers.
+/// The page `number` in this round.
 pub(crate) fn page_of(number: u32, round: u8) -> Page {
     let mut page = [round; 4096];
     let [.., low] = number.to_be_bytes();
@@ -119,7 +119,7 @@ fn second_round() -> Rounds {
     rounds
 }
 
-/// Opens the pages of a device, where half of its slots have room for them.
+/// Opens the pages of a device, if half of its slots have room for them.
 pub(crate) fn open(alloc: Global, device: MemDevice) -> Result<Buffer<MemDevice>, Fail> {
     let mut device = device;
     let (root, _) = load(&mut device)?;
@@ -139,7 +139,7 @@ pub(crate) fn empty(alloc: Global) -> Result<Buffer<MemDevice>, Fail> {
     open(alloc, MemDevice::new(alloc, pages)?)
 }
 
-/// Takes a home page of segment 1, where one can be taken.
+/// Takes a home page of segment 1, if one can be taken.
 fn take<P: Pages>(pages: &mut P) -> Result<u32, Undone> {
     if pages.spare() == 0 {
         return Err(Undone::Refused("no page can be taken"));
@@ -147,7 +147,7 @@ fn take<P: Pages>(pages: &mut P) -> Result<u32, Undone> {
     Ok(pages.take(1, Space::Home)?)
 }
 
-/// Reads a page, where it is mapped.
+/// Reads a page, if it is mapped.
 pub(crate) fn read<P: Pages>(pages: &mut P, key: PageKey) -> Result<Page, Undone> {
     if !pages.has(key) {
         return Err(Undone::Refused("a page that isn't mapped"));
@@ -157,7 +157,7 @@ pub(crate) fn read<P: Pages>(pages: &mut P, key: PageKey) -> Result<Page, Undone
     Ok(page)
 }
 
-/// Writes a page, where it is mapped.
+/// Writes a page, if it is mapped.
 pub(crate) fn write<P: Pages>(pages: &mut P, key: PageKey, page: &Page) -> Result<(), Undone> {
     if !pages.has(key) {
         return Err(Undone::Refused("a page that isn't mapped"));
@@ -165,7 +165,7 @@ pub(crate) fn write<P: Pages>(pages: &mut P, key: PageKey, page: &Page) -> Resul
     Ok(pages.write(key, page)?)
 }
 
-/// Gives a page back, where it is mapped.
+/// Gives a page back, if it is mapped.
 pub(crate) fn give<P: Pages>(pages: &mut P, key: PageKey) -> Result<(), Undone> {
     if !pages.has(key) {
         return Err(Undone::Refused("a page that isn't mapped"));
@@ -173,7 +173,7 @@ pub(crate) fn give<P: Pages>(pages: &mut P, key: PageKey) -> Result<(), Undone> 
     Ok(pages.give(key)?)
 }
 
-/// Fills a log page with a byte, where there is one of this number.
+/// Fills a log page with a byte, if there is one with the number `number`.
 fn write_piece<S: Saving>(pages: &mut S, number: u32, byte: u8) -> Result<(), Undone> {
     if number >= pages.log_pages() {
         return Err(Undone::Refused("no such log page"));
@@ -182,7 +182,7 @@ fn write_piece<S: Saving>(pages: &mut S, number: u32, byte: u8) -> Result<(), Un
     Ok(pages.write_piece(at, &[byte; 4096])?)
 }
 
-/// Saves, where this area may be written.
+/// Saves, if this area may be written.
 fn save<S: Saving>(pages: &mut S, area: u8) -> Result<(), Undone> {
     if area > 1 || area == pages.area() {
         return Err(Undone::Refused("no area to save to"));
@@ -190,7 +190,7 @@ fn save<S: Saving>(pages: &mut S, area: u8) -> Result<(), Undone> {
     Ok(pages.save(area)?)
 }
 
-/// Switches from the root of this number to one with this area.
+/// Switches from the root `valid` to one with this area.
 fn switch<S: Saving>(pages: &mut S, valid: u8, area: u8) -> Result<(), Undone> {
     if valid < 1 || valid > 2 {
         return Err(Undone::Refused("no such root"));
@@ -211,7 +211,7 @@ fn adopt<S: Saving>(pages: &mut S) -> Result<(), Undone> {
     Ok(())
 }
 
-/// Does a step of a save, where it may be done.
+/// Does a step of a save, if it may be done.
 fn do_step<S: Saving>(pages: &mut S, step: Step) -> Result<(), Undone> {
     match step {
         Step::Piece(number, byte) => write_piece(pages, number, byte),
@@ -229,7 +229,7 @@ pub(crate) fn do_steps<S: Saving>(pages: &mut S, steps: &[Step]) -> Result<(), U
     Ok(())
 }
 
-/// Takes the pages of these numbers, and writes each in a round.
+/// Takes the pages from `first` to `end`, and writes each in a round.
 fn take_pages<P: Pages>(pages: &mut P, first: u32, end: u32, round: u8) -> Result<(), Undone> {
     for number in first..end {
         take(pages)?;
@@ -272,7 +272,7 @@ fn make_second<P: Pages>(pages: &mut P) -> Result<(), Undone> {
     take_pages(pages, 30, 32, 3)
 }
 
-/// The round in which a page was written, where it is mapped.
+/// The round in which a page was written, if it is mapped.
 fn round_of<P: Pages>(pages: &mut P, number: u32) -> Result<Option<u8>, Undone> {
     if !pages.has(home(1, number)) {
         return Ok(None);
@@ -332,7 +332,7 @@ pub(crate) fn device_of(
     }
 }
 
-/// The same where it was seen to be done.
+/// The same if it was seen to be done.
 pub(crate) fn device_after(
     pages: Buffer<MemDevice>,
     seen: Result<(), Fail>,
@@ -426,7 +426,7 @@ fn second_asserted(alloc: Global) -> Result<MemDevice, Fail> {
 }
 
 /// Stops a device at a moment of the second round. What that leaves is one of the two rounds, and
-/// where nothing is switched the first.
+/// if nothing is switched the first.
 fn assert_stop(
     alloc: Global,
     device: &MemDevice,
@@ -442,7 +442,7 @@ fn assert_stop(
     Ok(())
 }
 
-/// Stops it at each moment but the last, where up to this one nothing is switched.
+/// Stops it at each moment but the last; up to this one nothing is switched.
 fn assert_stops(alloc: Global, device: &MemDevice, saved: usize) -> Result<(), Fail> {
     for moment in 0..device.moment() {
         assert_stop(alloc, device, moment, moment > saved)?;
@@ -487,7 +487,7 @@ fn assert_done<S: Saving>(pages: &mut S) -> Result<(), Fail> {
     Ok(())
 }
 
-/// Makes it and saves it where the device fails.
+/// Makes it and saves it over a device that fails.
 fn assert_fails<S: Saving>(pages: &mut S, call: u64) -> Result<(), Fail> {
     let done = save_second(pages, &SECOND_SAVE);
     let want = Err(Undone::Fault(PageFault::Device));

@@ -56,7 +56,7 @@ const LAST: [(u32, bool); 2] = [(4, true), (5, false)];
 
 /// Pages in memory, of which the one that wasn't used for the longest time leaves.
 trait Cache {
-    /// A page comes into memory, unchanged, where it isn't there and a frame is free.
+    /// A page comes into memory, unchanged, if it isn't there and a frame is free.
     fn try_admit(&mut self, number: u32) -> Result<(), Fail>;
 
     /// Whether a page is in memory. It becomes the one that was used last.
@@ -65,7 +65,7 @@ trait Cache {
     /// The same, and it is marked as changed.
     fn is_written(&mut self, number: u32) -> bool;
 
-    /// Marks a page as unchanged, where it is in memory.
+    /// Marks a page as unchanged, if it is in memory.
     fn settle_page(&mut self, number: u32);
 
     fn is_at_most(&self) -> bool;
@@ -211,7 +211,7 @@ fn bring<C: Cache>(cache: &mut C, number: u32) -> Result<Option<(u32, bool)>, Fa
     Ok(left)
 }
 
-/// Uses a page, which is brought into memory first where it isn't there, and in two of three cases
+/// Uses a page, which is brought into memory first if it isn't there, and in two of three cases
 /// written or settled. Answers the page that left for it, if one did.
 fn use_page<C: Cache>(cache: &mut C, number: u32, way: u32) -> Result<Option<(u32, bool)>, Fail> {
     let mut left = None;

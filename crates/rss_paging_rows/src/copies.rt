@@ -86,7 +86,7 @@ fn take_all<P: Pages>(pages: &mut P) -> Result<Plain, Undone> {
     Ok(plain)
 }
 
-/// Copies, where both pages are mapped and differ, and both ranges are within them.
+/// Copies, if both pages are mapped and differ, and both ranges are within them.
 fn copy<P: Pages>(pages: &mut P, it: Copying) -> Result<(), Undone> {
     let from = key_of(it.from);
     let to = key_of(it.to);

@@ -40,7 +40,7 @@ const ACTS: [(Act, Option<u32>); 15] = [
     (Act::Give(0), None),
 ];
 
-/// The first mapped and the first unmapped page from a number on, of 128, where pages 1, 2 and 4
+/// The first mapped and the first unmapped page from a number on, of 128, of which pages 1, 2 and 4
 /// are mapped.
 const FIRSTS: [(u32, Option<u32>, Option<u32>); 8] = [
     (0, Some(1), Some(0)),
@@ -53,7 +53,7 @@ const FIRSTS: [(u32, Option<u32>, Option<u32>); 8] = [
     (128, None, None),
 ];
 
-/// Takes a page of segment 1, where one can be taken.
+/// Takes a page of segment 1, if one can be taken.
 fn take<P: Pages>(pages: &mut P, space: Space) -> Result<u32, Undone> {
     if pages.spare() == 0 || space == Space::System {
         return Err(Undone::Refused("no page can be taken"));
@@ -61,7 +61,7 @@ fn take<P: Pages>(pages: &mut P, space: Space) -> Result<u32, Undone> {
     Ok(pages.take(1, space)?)
 }
 
-/// Notes a number on a page, where it may be noted.
+/// Notes a number on a page, if it may be noted.
 fn note<P: Pages>(pages: &mut P, key: PageKey, number: u16) -> Result<(), Undone> {
     let is_noted = key.space == Space::Home || key.space == Space::Overflow;
     if !pages.has(key) || !is_noted || number > 65_533 {
@@ -84,7 +84,7 @@ fn first_noted<P: Pages>(
     Ok(pages.first_noted(1, space, from, least))
 }
 
-/// Brings a page into memory, where it is mapped, and copies what is lent of it.
+/// Brings a page into memory, if it is mapped, and copies what is lent of it.
 fn lent<P: Pages>(pages: &mut P, key: PageKey) -> Result<Page, Undone> {
     if !pages.has(key) {
         return Err(Undone::Refused("a page that isn't mapped"));
@@ -93,7 +93,7 @@ fn lent<P: Pages>(pages: &mut P, key: PageKey) -> Result<Page, Undone> {
     Ok(*pages.loaded(key))
 }
 
-/// Does something to a page, where it may be done.
+/// Does something to a page, if it may be done.
 fn do_act<P: Pages>(pages: &mut P, space: Space, act: Act) -> Result<(), Undone> {
     match act {
         Act::Take => {
@@ -174,7 +174,7 @@ fn assert_lent<P: Pages>(pages: &mut P, number: u32, round: u8, when: &str) -> R
     Ok(())
 }
 
-/// A page is lent as it was saved and then as it is written, where the device reads once.
+/// A page is lent as it was saved and then as it is written; the device reads once.
 fn assert_lent_twice<P: Pages>(pages: &mut P) -> Result<(), Fail> {
     assert_lent(pages, 0, 1, "as it was saved")?;
     assert_lent(pages, 0, 1, "again")?;

@@ -11,8 +11,8 @@ use rss_shadow::Shadow;
 use std::alloc::Global;
 use std::test::Fail;
 
-/// The first root of a store with 8 log pages: the log ends behind its first record, a Checkpoint
-/// of two bytes.
+/// The first root of a store with 8 log pages: the log ends after its first record, a Checkpoint of
+/// two bytes.
 pub(crate) fn first_root(slots: u32, area: u8) -> Root {
     Root {
         version: VERSION,
@@ -79,8 +79,8 @@ pub(crate) fn page_at(device: &MemDevice, at: usize) -> Result<Page, Fail> {
     }
 }
 
-/// Switches a device to a root, where the device has the pages of the roots and the number is that
-/// of one.
+/// Switches a device to a root, if the device has the pages of the roots and the number is that of
+/// one.
 pub(crate) fn switch_from(
     device: &mut MemDevice,
     valid: u8,
@@ -98,7 +98,7 @@ pub(crate) fn load_table<D: Device>(alloc: Global, device: &mut D) -> Result<Slo
     read_table(alloc, device, &root)
 }
 
-/// Writes a table to an area, where the device has the pages of both.
+/// Writes a table to an area, if the device has the pages of both.
 pub(crate) fn write_to(
     device: &mut MemDevice,
     table: &SlotTable,
@@ -152,7 +152,7 @@ pub(crate) fn home(segment: u8, number: u32) -> PageKey {
     key_of(segment, Space::Home, number)
 }
 
-/// The two maps of a store. What asks for something of them is done where it may be done.
+/// The two maps of a store. What asks for something of them is done if it may be done.
 pub(crate) trait Maps {
     fn counts(&self) -> Counts;
 
@@ -185,7 +185,7 @@ pub(crate) struct Counts {
     pub(crate) heap: u32,
 }
 
-/// The first page that is mapped, and the first that isn't, where there is one.
+/// The first page that is mapped, and the first that isn't, if there is one.
 #[derive(Clone, Copy, Debug, PartialEq, Eq)]
 pub(crate) struct Firsts {
     pub(crate) mapped: Option<u32>,

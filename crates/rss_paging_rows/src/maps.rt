@@ -19,8 +19,8 @@ const LAST_SYSTEM: PageKey = PageKey {
     number: 9,
 };
 
-/// The pages of both map areas, and their bytes that aren't 0, by their places, where slot 9 has
-/// that page in area 0.
+/// The pages of both map areas, and their bytes that aren't 0, by their places, if slot 9 has that
+/// page in area 0.
 const AREAS: [(usize, &[(usize, u8)]); 2] = [(3, &[(72, 4), (79, 9)]), (4, &[])];
 
 /// The entry of slot 0 in the tests of single entries: home page 0 of segment 1.
@@ -89,7 +89,7 @@ fn device_with(alloc: Global, slot: u32, entry: Entry) -> Result<MemDevice, Fail
     Ok(MemDevice::new(alloc, pages)?)
 }
 
-/// The same device, but that slot 0 alone has an entry, and a byte of the map area isn't 0.
+/// The same device, but that only slot 0 has an entry, and a byte of the map area isn't 0.
 fn device_with_byte(alloc: Global, offset: usize) -> Result<MemDevice, Fail> {
     let mut pages = small_store(alloc)?;
     put_entry(pages.as_mut_slice(), 3, 0, FIRST)?;
@@ -132,7 +132,7 @@ fn fault_by(alloc: Global, slot: u32, entry: Entry) -> Result<Option<OpenFault>,
     Ok(fault_of(alloc, &mut device))
 }
 
-/// Why a map area with a byte behind its entries can't be read.
+/// Why a map area with a byte after its entries can't be read.
 fn fault_by_byte(alloc: Global, offset: usize) -> Result<Option<OpenFault>, Fail> {
     let mut device = device_with_byte(alloc, offset)?;
     Ok(fault_of(alloc, &mut device))
@@ -187,7 +187,7 @@ fn assert_wrong(alloc: Global, name: &str, entry: Entry) -> Result<(), Fail> {
     Ok(())
 }
 
-/// The calls of a device whose areas have 20 pages each, and what a write of a table answers where one
+/// The calls of a device whose areas have 20 pages each, and what a write of a table answers if one
 /// fails: the first writes 16 pages, the second four. There is no third call.
 const WRITE_CALLS: [(u64, Result<(), Failed>); 3] = [
     (0, Err(Failed)),

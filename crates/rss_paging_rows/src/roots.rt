@@ -106,7 +106,7 @@ const TURNED: [(usize, usize, u8, Answer); 34] = [
     (0, 0, 1, NOT_ROOT_2),
 ];
 
-/// A head, an end, and whether the largest Checkpoint record has room behind it in 8 log pages and
+/// A head, an end, and whether the largest Checkpoint record has room after it in 8 log pages and
 /// the root's tail.
 const ROOMS: [(u64, u64, bool); 6] = [
     // 9 * 4000 - 1 - 386
@@ -180,7 +180,7 @@ const TO_ROOT_1: Switch = Switch {
 /// The writes of both switches, and the moments right after them.
 const WRITES: [(usize, usize); 4] = [(0, 1), (1, 3), (2, 5), (3, 7)];
 
-/// The calls of a load, in their order, and what it answers where one fails. There is no fifth call.
+/// The calls of a load, in their order, and what it answers if one fails. There is no fifth call.
 const LOAD_CALLS: [(u64, &str, Answer); 5] = [
     (0, "the sync", Err(OpenFault::Device)),
     (1, "the size", Err(OpenFault::Device)),
@@ -189,7 +189,7 @@ const LOAD_CALLS: [(u64, &str, Answer); 5] = [
     (4, "no call", Ok(LOADS)),
 ];
 
-/// The calls of a switch, in their order, and what a load finds where one fails and no stop comes.
+/// The calls of a switch, in their order, and what a load finds if one fails and no stop comes.
 const SWITCH_CALLS: [(u64, &str, Found); 4] = [
     (0, "the write of the root", Found::Before),
     (1, "the sync of the root", Found::Before),
@@ -286,7 +286,7 @@ fn found_after(
     found_in(alloc, image_at(alloc, device, moment, unsynced)?, switch)
 }
 
-/// Which of a switch's roots is found where no stop comes.
+/// Which of a switch's roots is found if no stop comes.
 fn found_on(alloc: Global, device: &MemDevice, switch: &Switch) -> Result<Found, Fail> {
     found_in(alloc, copy_of_pages(alloc, device)?, switch)
 }

@@ -81,7 +81,7 @@ const FIRSTS_OF_MANY: [(u8, Space, u32, Option<u32>, Option<u32>); 5] = [
     (2, Space::Home, 0, None, Some(0)),
 ];
 
-/// Pages that are taken one after another where home pages of segment 1 have holes: their segments,
+/// Pages that are taken one after another, as home pages of segment 1 have holes: their segments,
 /// their spaces, and the numbers that they get.
 const IN_HOLES: [(u8, Space, u32); 5] = [
     (1, Space::Home, 0),
@@ -159,7 +159,7 @@ fn write_pages<M: Maps>(maps: &mut M, marked: &mut [bool]) -> Result<Option<u32>
     Ok(None)
 }
 
-/// The same, where the slots that the pages have are marked first.
+/// The same, after the slots that the pages have were marked.
 fn mark_and_write<M: Maps>(maps: &mut M, marked: &mut [bool]) -> Result<Option<u32>, Fail> {
     mark_slots(maps, marked)?;
     write_pages(maps, marked)

@@ -18,7 +18,7 @@ fn words(rt: &HostRuntime) -> Result<Vec<String>, Status> {
     }
 }
 
-/// Does what the words ask for. Where they name no file, none is opened.
+/// Does what the words ask for. If they name no file, none is opened.
 fn run_words(rt: &HostRuntime, words: &[String]) -> Status {
     let mut source = ReaderSource::new(rt.reader());
     let mut sink = WriterSink::new(io::writer(rt));

@@ -13,7 +13,7 @@ const VALUES_MOST: usize = 2048;
 /// How many tuples a page has an entry for.
 const ENTRIES: u16 = PAGE_ENTRIES as u16;
 
-/// Bytes that are still to be read. Each call takes a field from their front; where there is none,
+/// Bytes that are still to be read. Each call takes a field from their front; if there is none,
 /// what is left is of no use.
 #[derive(Drop)]
 pub(crate) struct Fields<'a> {
@@ -96,7 +96,7 @@ impl<'a> Fields<'a> {
         }
     }
 
-    /// An identifier, or six bytes of 255 where there is none.
+    /// An identifier, or six bytes of 255 if there is none.
     #[tactic(auto, unfolding(crate::specs::Reading::place_at))]
     pub(crate) fn place(&mut self) -> Option<Option<Tid>>
         ensures { Gives result self.new (place_at self.old) }
@@ -112,7 +112,7 @@ impl<'a> Fields<'a> {
         }
     }
 
-    /// Values, behind their length.
+    /// Values, after their length.
     #[tactic(auto, unfolding(crate::specs::Reading::values_at))]
     pub(crate) fn values(&mut self) -> Option<Body>
         ensures { Gives result self.new (values_at self.old) }
@@ -128,7 +128,7 @@ impl<'a> Fields<'a> {
         Some(values)
     }
 
-    /// The transactions of a checkpoint, behind their count.
+    /// The transactions of a checkpoint, after their count.
     #[tactic(auto, unfolding(crate::specs::Reading::marks_at))]
     pub(crate) fn marks(&mut self) -> Option<Marks>
         ensures { Gives result self.new (marks_at self.old) }

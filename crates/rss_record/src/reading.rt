@@ -8,7 +8,7 @@ use crate::fields::Fields;
 use crate::kinds::{ABORT, CHECKPOINT, CONNECT, DELETE, DISCONNECT, END, INSERT, RESTORE, UPDATE};
 use rss_base::{Change, LogRecord};
 
-/// The record with which the bytes begin, and its size; none exactly where they begin with no record.
+/// The record with which the bytes begin, and its size; none exactly if they begin with no record.
 /// It takes no memory.
 pub fn read_record(bytes: &[u8]) -> Option<(LogRecord, u32)>
     ensures found { IfSome result (λ f. BeginsWith bytes.now f.0 (drop f.1 bytes.now)) }

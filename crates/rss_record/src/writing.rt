@@ -153,7 +153,7 @@ fn put_head(into: &mut RecordBytes, kind: u8, by: u32) -> usize
     put_u32(into, at, by)
 }
 
-/// Writes an identifier, or six bytes of 255 where there is none.
+/// Writes an identifier, or six bytes of 255 if there is none.
 fn put_place(into: &mut RecordBytes, at: usize, place: Option<Tid>) -> usize
     requires { at + 6 ≤ RECORD_BYTES }
     ensures written { Puts at (place_bytes place) into.old into.new }
@@ -176,7 +176,7 @@ fn put_tid(into: &mut RecordBytes, at: usize, tid: Tid) -> usize
     put_u16(into, at, tid.slot)
 }
 
-/// Writes values behind their length.
+/// Writes values after their length.
 fn put_values(into: &mut RecordBytes, at: usize, values: &Body) -> usize
     requires short { IsShort values.now }
     requires room { at + 2 + length values.now ≤ RECORD_BYTES }
@@ -188,7 +188,7 @@ fn put_values(into: &mut RecordBytes, at: usize, values: &Body) -> usize
     put(into, at, bytes)
 }
 
-/// Writes a number in the two bytes from a place on, and answers the place behind them.
+/// Writes a number in the two bytes from a place on, and answers the place after them.
 fn put_u16(into: &mut RecordBytes, at: usize, number: u16) -> usize
     requires { at + 2 ≤ RECORD_BYTES }
     ensures written { Puts at (to_be_bytes w16 number) into.old into.new }
@@ -218,7 +218,7 @@ fn put_u64(into: &mut RecordBytes, at: usize, number: u64) -> usize
     at + 8
 }
 
-/// Writes bytes from a place on, and answers the place behind them.
+/// Writes bytes from a place on, and answers the place after them.
 fn put(into: &mut RecordBytes, at: usize, bytes: &[u8]) -> usize
     requires { at + length bytes.now ≤ RECORD_BYTES }
     ensures written { Puts at bytes.now into.old into.new }

@@ -28,14 +28,14 @@ enum Way {
 }
 
 /// Brings the pages, which have the tables of a log's last checkpoint, to the tables that the log
-/// recovers: undoes what was listed at the checkpoint and doesn't survive, the newest first, and
-/// then does again what survives behind it, in the order of the log: changes of tuples and of
+/// recovers. It undoes what was listed at the checkpoint and doesn't survive, the newest first.
+/// Then it does again what survives after it, in the order of the log: changes of tuples and of
 /// chains.
 ///
-/// A record that is out of form, or that tells no change where one is to be made, a change that
-/// isn't found as it is told, and one for which there is no room, are `Damaged` at the record's
-/// position. Whether a Checkpoint record stands at `checkpoint` isn't tested. After such a fault, or
-/// one of the device, some of the changes are made; where memory ran out, none is.
+/// A record is `Damaged` at its position if it is out of form, or tells no change though one is to
+/// be made. So it is if its change isn't found as it is told, or there is no room for it. Whether a
+/// Checkpoint record stands at `checkpoint` isn't tested. After such a fault, or one of the device,
+/// some of the changes are made; if memory ran out, none is.
 pub fn restart<P: Pages>(
     alloc: Global,
     tuples: &mut Store<P>,

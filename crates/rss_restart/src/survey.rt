@@ -29,11 +29,11 @@ pub(crate) struct Found {
 }
 
 /// Looks through a log, whose last Checkpoint record begins at this position, for what is to be
-/// undone of the changes in front of it, and done again of those behind it. Its time and its memory
-/// grow with the count of records. It touches no page.
+/// undone of the changes before it, and done again of those after it. Its time and its memory grow
+/// with the count of records. It touches no page.
 ///
-/// Where no record begins, it is `Damaged` at that position of the log; where a record in front of
-/// the checkpoint goes beyond it, at the checkpoint. Whether a Checkpoint record stands there isn't
+/// If no record begins at a position of the log, it is `Damaged` there; if a record before the
+/// checkpoint goes beyond it, at the checkpoint. Whether a Checkpoint record stands there isn't
 /// tested.
 pub(crate) fn survey(alloc: Global, log: &Log, checkpoint: u64) -> Result<Found, PageFault>
     requires low { log.now.head ≤ checkpoint }
@@ -57,7 +57,7 @@ pub(crate) fn survey(alloc: Global, log: &Log, checkpoint: u64) -> Result<Found,
     }
 }
 
-/// What is to be undone of the changes in front of a checkpoint, and done again of those behind it.
+/// What is to be undone of the changes before a checkpoint, and done again of those after it.
 fn decide(alloc: Global, older: &[Placed], newer: &[Placed]) -> Result<Found, AllocError>
     ensures undone { IfOk result (λ found.
         found.undone.items ≡ undone_in older.now newer.now) }

@@ -54,7 +54,7 @@ pub fn encode(root: &Root) -> Page
     page
 }
 
-/// What a page says, where it is the page of a root.
+/// What a page says, if it is the page of a root.
 pub fn decode(page: &Page) -> Option<Root>
     ensures some { IfSome result (IsRootPage page.now) }
     ensures none { IfNone result ((root : SomeRoot) → IsRootPage page.now root → ⊥) }

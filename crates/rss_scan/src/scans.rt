@@ -44,8 +44,8 @@ impl Scans {
         Ok(Scans { scans })
     }
 
-    /// Opens a scan that has given nothing, under the least number that isn't in use; none where
-    /// 256 are open.
+    /// Opens a scan that has given nothing, under the least number that isn't in use; none if 256
+    /// are open.
     pub fn add(&mut self, transaction: u32, path: Path) -> Option<u32>
         ensures least { IfSome result (IsLeastFree (told self.old)) }
         ensures added { IfSome result (λ number.
@@ -61,7 +61,7 @@ impl Scans {
         Some(number as u32)
     }
 
-    /// The scan with this number, if it is the transaction's.
+    /// The scan `scan`, if it is the transaction's.
     pub fn get(&self, transaction: u32, scan: u32) -> Option<&Cursor>
         ensures { option_copied result ≡ cursor_of (told self.now) transaction scan }
     {

@@ -145,7 +145,7 @@ impl<S: Saving> Session<S> {
         }
     }
 
-    /// One tuple more of the relation of this number may be inserted.
+    /// One tuple more of the relation `number` may be inserted.
     pub fn test_limit(&self, number: u8) -> Result<(), Refusal>
         requires { is_some (relation_at (view S.view self.now).store.catalog.listing number) ≡ true }
         ensures { (entry : Entry)

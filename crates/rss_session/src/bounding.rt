@@ -23,8 +23,8 @@ pub(crate) const NUMBERS: usize = 256;
 impl<S: Saving> Session<S> {
     ghost use Rattle.rss_session.specs.Parts.{view};
 
-    /// How many pages images may have: as it is or, where `saved`, behind a checkpoint; with a change
-    /// more of a tuple of the relation of this number.
+    /// How many pages images may have: as it is or, if `saved`, after a checkpoint; with a change
+    /// more of a tuple of the relation `number`.
     pub(crate) fn images_bound(&self, saved: bool, number: Option<u8>) -> u64
         ensures is { result ≡ listed_bound (view S.view self.now).store.catalog.listing
             (most_by (view S.view self.now) saved number) }
@@ -86,7 +86,7 @@ impl<S: Saving> Session<S> {
     }
 }
 
-/// How many tuples the relation of a number has, 0 where there is none.
+/// How many tuples the relation of a number has, 0 if there is none.
 fn live_of(catalog: &Catalog, number: u8) -> u32
     ensures { result ≡ live_of catalog.now.listing number }
 {

@@ -63,11 +63,11 @@ impl<S: Saving> Session<S> {
         self.open.reserve(transaction)
     }
 
-    /// Makes a change of a tuple or of a chain, behind a checkpoint where the rules ask for one, as `weigh_change`
-    /// says. It takes no memory but what `reserve` took.
+    /// Makes a change of a tuple or of a chain, after a checkpoint if the rules ask for one, as
+    /// `weigh_change` says. It takes no memory but what `reserve` took.
     ///
-    /// Where the tuple or the chain isn't as the change tells it, which no device shows that tells its contents, the
-    /// fault is `Damaged`.
+    /// If the tuple or the chain isn't as the change tells it, which no device shows that tells its
+    /// contents, the fault is `Damaged`.
     pub fn make(
         &mut self,
         transaction: u32,

@@ -59,11 +59,11 @@ impl<S: Saving> Session<S> {
         self.open.save(transaction)
     }
 
-    /// Ends a transaction: its changes are committed. Where it has none nothing is written. It takes no
-    /// memory.
+    /// Ends a transaction: its changes are committed. If it has none, nothing is written. It takes
+    /// no memory.
     ///
-    /// At each moment a stop leaves the committed tables of before, or those with its changes; after
-    /// `Ok` the latter.
+    /// At each moment a stop leaves the committed tables of before, or those with its changes;
+    /// after `Ok` only those with its changes.
     pub fn commit(&mut self, transaction: u32) -> Result<(), PageFault>
         requires ready { IsReady (view S.view self.old) }
         requires open { is_open (view S.view self.old).opened transaction ≡ true }

@@ -23,7 +23,7 @@ use std::alloc::Global;
 impl<S: Saving> Session<S> {
     ghost use Rattle.rss_session.specs.Parts.{view};
 
-    /// Whether there is room for an image more behind a checkpoint.
+    /// Whether there is room for an image more after a checkpoint.
     pub fn test_image_room(&self, image: &ImageEntry) -> Result<(), Refusal>
         requires ready { IsReady (view S.view self.now) }
         requires planned { IsPlanned (view S.view self.now).store.catalog.listing image.now }
@@ -38,7 +38,7 @@ impl<S: Saving> Session<S> {
         Ok(())
     }
 
-    /// How many slots may be needed behind a checkpoint, with an image more.
+    /// How many slots may be needed after a checkpoint, with an image more.
     fn room_for(&self, image: &ImageEntry) -> u64
         requires ready { IsReady (view S.view self.now) }
         requires planned { IsPlanned (view S.view self.now).store.catalog.listing image.now }
@@ -50,8 +50,8 @@ impl<S: Saving> Session<S> {
         room_of(u64::from(self.store.heap()), self.open.sums().p, 0, images)
     }
 
-    /// Images have no more pages than they may have behind a checkpoint; else `Damaged`, which no
-    /// device shows that tells its contents.
+    /// Images have no more pages than they may have after a checkpoint; otherwise `Damaged`, which
+    /// no device shows that tells its contents.
     pub(crate) fn check_image_pages(&self) -> Result<(), PageFault>
         requires ready { IsReady (view S.view self.now) }
         requires closed { (view S.view self.now).opened.transactions ≡ empty }
@@ -89,7 +89,7 @@ impl<S: Saving> Session<S> {
         )
     }
 
-    /// Where an image that was planned is unique, no two of its entries have one key.
+    /// If an image that was planned is unique, no two of its entries have one key.
     pub fn test_image_keys(&self, image: &ImageEntry, entries: &[(Key, Tid)]) -> Result<(), Refusal>
         requires ready { IsReady (view S.view self.now) }
         requires closed { (view S.view self.now).opened.transactions ≡ empty }

@@ -76,7 +76,7 @@ impl<S: Saving> Session<S> {
     }
 
     /// Undoes a transaction's changes since a save point, the newest first. Answers the position of
-    /// the oldest of them, where there is one.
+    /// the oldest of them, if there is one.
     fn undo_after(&mut self, transaction: u32, save: u32) -> Result<Option<u64>, PageFault>
         requires ready { IsReady (view S.view self.old) }
         requires open { is_open (view S.view self.old).opened transaction ≡ true }

@@ -19,8 +19,8 @@ use rss_buffer::Saving;
 impl<S: Saving> Session<S> {
     ghost use Rattle.rss_session.specs.Parts.{view};
 
-    /// The tuple that has, in the unique image of this number, the key of a tuple with the values of
-    /// these bytes, if there is one, other than `own`, the tuple that the key is for.
+    /// The tuple other than `own` that has, in the unique image `number`, the key of a tuple with
+    /// the values of these bytes, if there is one. `own` is the tuple that the key is for.
     pub fn find_owner(
         &mut self,
         number: u8,
@@ -53,7 +53,7 @@ impl<S: Saving> Session<S> {
         )
     }
 
-    /// The pair of the image of this number behind the one that was given last, if there is one; before
+    /// The pair of the image `number` after the one that was given last, if there is one; before
     /// the first, the first pair whose key is at or above `start`.
     pub fn next_entry(
         &mut self,

@@ -20,8 +20,8 @@ use rss_members::{Membership, connected, is_there, last_of, next_member, place_o
 impl<S: Saving> Session<S> {
     ghost use Rattle.rss_session.specs.Parts.{view};
 
-    /// The transaction is open, and the link is there; where it is told whether a parent is given, the
-    /// link has parents exactly where one is. Answers its number.
+    /// The transaction is open, and the link is there; if it is told whether a parent is given, the
+    /// link has parents exactly if one is. Answers its number.
     pub fn admit_link(
         &self,
         transaction: u32,
@@ -51,8 +51,8 @@ impl<S: Saving> Session<S> {
         Ok(number)
     }
 
-    /// Where a tuple stands in the chains of the link of this number. None where it isn't there, or
-    /// stands in no chain.
+    /// Where a tuple stands in the chains of the link `link`. None if it isn't there, or stands in
+    /// no chain.
     pub fn find_place(&mut self, link: u8, child: Tid) -> Result<Option<Membership>, PageFault>
         requires ready { IsReady (view S.view self.old) }
         requires listed { is_some (link_at (view S.view self.old).store.catalog.listing link) ≡ true }
@@ -67,8 +67,8 @@ impl<S: Saving> Session<S> {
         place_of(&mut self.store.tuples, &self.store.catalog, link, child)
     }
 
-    /// The tuple behind which a spot is in the chain of a parent, which may be there or not, and no
-    /// tuple where the spot is the first; a link without parents has one chain. None where there is no
+    /// The tuple after which a spot is in the chain of a parent, which may be there or not, and no
+    /// tuple if the spot is the first; a link without parents has one chain. None if there is no
     /// such spot.
     pub fn find_left(
         &mut self,
@@ -135,7 +135,7 @@ impl<S: Saving> Session<S> {
         )
     }
 
-    /// The spot right behind a tuple, which is there where the tuple stands in the chain of a parent.
+    /// The spot right after a tuple, which is there if the tuple stands in the chain of a parent.
     fn find_behind(
         &mut self,
         link: u8,
@@ -163,8 +163,8 @@ impl<S: Saving> Session<S> {
         }
     }
 
-    /// What comes behind a tuple in the chain of a parent, which may be there or not, or first in it
-    /// where no tuple is given; a link without parents has one chain. None where the tuple isn't in that
+    /// What comes after a tuple in the chain of a parent, which may be there or not, or first in it
+    /// if no tuple is given; a link without parents has one chain. None if the tuple isn't in that
     /// chain.
     pub fn next_member(
         &mut self,
@@ -188,8 +188,8 @@ impl<S: Saving> Session<S> {
         )
     }
 
-    /// The first link by its name in which a tuple of the relation of this number stands in a chain or
-    /// has one. None where the tuple isn't there.
+    /// The first link by its name in which a tuple of the relation `relation` stands in a chain or
+    /// has one. None if the tuple isn't there.
     pub fn find_connected(&mut self, relation: u8, tid: Tid) -> Result<Option<Name>, PageFault>
         requires ready { IsReady (view S.view self.old) }
         requires listed { is_some (relation_at (view S.view self.old).store.catalog.listing relation)

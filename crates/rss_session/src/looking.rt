@@ -18,9 +18,9 @@ use rss_tuple::{BodyAt, Tuples};
 impl<S: Saving> Session<S> {
     ghost use Rattle.rss_session.specs.Parts.{view};
 
-    /// Where the body of the tuple with this identifier stands, where that is one of the relation of
-    /// this number, which stands in this segment. It asks for two pages at most, which may drive out as
-    /// many, each with a run of pages.
+    /// Where the body of the tuple with this identifier stands, if that is one of the relation
+    /// `number`, which stands in this segment. It asks for two pages at most, which may drive out
+    /// as many, each with a run of pages.
     pub fn look(&mut self, segment: u8, number: u8, tid: Tid) -> Result<Option<BodyAt>, PageFault>
         requires { IsReady (view S.view self.old) }
         ensures looks { LooksOn (view S.view self.old) (view S.view self.new) result }
@@ -38,8 +38,8 @@ impl<S: Saving> Session<S> {
         find(&mut self.store.tuples, segment, number, tid)
     }
 
-    /// The least identifier behind this one, or the least of all, that a tuple of the relation of this
-    /// number has, which stands in this segment; and where the tuple's body stands.
+    /// The least identifier after this one, or the least of all, that a tuple of the relation
+    /// `number` has, which stands in this segment; and the place of the tuple's body.
     pub fn next_tuple(
         &mut self,
         segment: u8,

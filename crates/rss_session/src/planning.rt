@@ -103,7 +103,7 @@ fn stands_in(names: &[Name], name: &Name) -> bool
     names.iter().any(|other| *other == *name)
 }
 
-/// The numbers of the fields with these names, and zeros behind them, where a key of them isn't too
+/// The numbers of the fields with these names, and zeros after them, if a key of them isn't too
 /// wide.
 fn key_numbers(fields: &[FieldDef], names: &[Name]) -> Result<[u8; MOST_FIELDS], Refusal>
     requires short { length fields.now ≤ most_fields }
@@ -121,7 +121,7 @@ fn key_numbers(fields: &[FieldDef], names: &[Name]) -> Result<[u8; MOST_FIELDS],
     Ok(numbers)
 }
 
-/// The numbers of the fields with these names, and zeros behind them.
+/// The numbers of the fields with these names, and zeros after them.
 fn numbers_of(fields: &[FieldDef], names: &[Name]) -> [u8; MOST_FIELDS]
     requires short { length fields.now ≤ most_fields }
     requires known { list_all (is_field_of fields.now) names.now ≡ true }

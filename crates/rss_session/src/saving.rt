@@ -58,10 +58,10 @@ impl<S: Saving> Session<S> {
         self.save_all()
     }
 
-    /// Commits what is defined in the catalog now, where no transaction is open: a checkpoint.
+    /// Commits what is defined in the catalog now, if no transaction is open: a checkpoint.
     ///
-    /// At each moment a stop leaves the committed tables of before or the next ones; after `Ok` the
-    /// latter.
+    /// At each moment a stop leaves the committed tables of before or the next ones; after `Ok`
+    /// only the next ones.
     pub fn redefine(&mut self) -> Result<(), PageFault>
         requires ready { CanSave (view S.view self.old) }
         requires closed { (view S.view self.old).opened.transactions ≡ empty }
@@ -86,8 +86,8 @@ impl<S: Saving> Session<S> {
         self.save_all()
     }
 
-    /// Takes a checkpoint of what the pages spell by the catalog, where there is room behind it; else
-    /// `Damaged`, which no device shows that tells its contents.
+    /// Takes a checkpoint of what the pages spell by the catalog, if there is room after it;
+    /// otherwise `Damaged`, which no device shows that tells its contents.
     fn save_all(&mut self) -> Result<(), PageFault>
         requires ready { CanSave (view S.view self.old) }
         requires may { MaySave (view S.view self.old) }

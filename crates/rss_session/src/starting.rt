@@ -16,8 +16,8 @@ use rss_value::{key_fits, key_from, least_key};
 impl<S: Saving> Session<S> {
     ghost use Rattle.rss_session.specs.Parts.{view};
 
-    /// The transaction is open, the image is there, and the key that a scan of it is to begin with fits
-    /// its fields, where there is one. Answers its number.
+    /// The transaction is open, the image is there, and the key that a scan of it is to begin with
+    /// fits its fields, if there is one. Answers its number.
     pub fn admit_image(
         &self,
         transaction: u32,
@@ -45,7 +45,7 @@ impl<S: Saving> Session<S> {
         Ok(number)
     }
 
-    /// The values fit the fields of the image of this number.
+    /// The values fit the fields of the image `number`.
     fn test_key(&self, number: u8, key: &Tuple) -> Result<(), Refusal>
         requires { is_some (image_at (view S.view self.now).store.catalog.listing number) ≡ true }
         ensures fit { OnOk result
@@ -63,7 +63,7 @@ impl<S: Saving> Session<S> {
         }
     }
 
-    /// The bytes that a scan of the image of this number starts at: those of a key, or zeros.
+    /// The bytes that a scan of the image `number` starts at: those of a key, or zeros.
     pub fn start_key(&self, number: u8, from: &Option<Tuple>) -> Key
         requires there { is_some (image_at (view S.view self.now).store.catalog.listing number)
             ≡ true }

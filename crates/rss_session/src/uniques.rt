@@ -22,8 +22,8 @@ use std::cmp::Ordering;
 impl<S: Saving> Session<S> {
     ghost use Rattle.rss_session.specs.Parts.{view};
 
-    /// The number of the unique image of a relation whose name stands next behind `after`, or first of
-    /// all, if there is one. It takes no memory.
+    /// The number of the unique image of a relation whose name stands next after `after`, or first
+    /// of all, if there is one. It takes no memory.
     pub fn next_unique(&self, relation: u8, after: Option<Name>) -> Option<u8>
         ensures of { IfSome result (λ number.
             IsImageOf (view S.view self.now).store.catalog.listing number relation) }
@@ -33,7 +33,7 @@ impl<S: Saving> Session<S> {
         next_of(&self.store.catalog, relation, after)
     }
 
-    /// Why a tuple with the values of these bytes is refused in the relation of this number: of the
+    /// Why a tuple with the values of these bytes is refused in the relation `number`: of the
     /// unique images that have its key for another tuple than `own`, the first by its name.
     pub fn find_duplicate(
         &mut self,
@@ -67,7 +67,7 @@ impl<S: Saving> Session<S> {
     }
 }
 
-/// The number of the unique image of a relation whose name stands next behind `after`, if there is
+/// The number of the unique image of a relation whose name stands next after `after`, if there is
 /// one.
 fn next_of(catalog: &Catalog, relation: u8, after: Option<Name>) -> Option<u8>
     ensures of { IfSome result (λ number. IsImageOf catalog.now.listing number relation) }
@@ -80,7 +80,7 @@ fn next_of(catalog: &Catalog, relation: u8, after: Option<Name>) -> Option<u8>
     least
 }
 
-/// The least of this number and those below it, where `least` is that of those below it.
+/// The least of `number` and those below it; `least` is that of those below it.
 fn lesser_of(
     catalog: &Catalog,
     relation: u8,
@@ -98,7 +98,7 @@ fn lesser_of(
     }
 }
 
-/// Whether this is the number of a unique image of a relation, whose name stands behind `after`.
+/// Whether this is the number of a unique image of a relation, whose name stands after `after`.
 fn is_unique_behind(catalog: &Catalog, number: u8, relation: u8, after: Option<Name>) -> bool
     ensures { IsTrue result ↔ IsUniqueBehind catalog.now.listing relation after number }
 {
@@ -121,7 +121,7 @@ fn is_before(catalog: &Catalog, number: u8, other: Option<u8>) -> bool
     }
 }
 
-/// Whether a name stands behind another one, if there is one.
+/// Whether a name stands after another one, if there is one.
 fn is_behind(after: Option<Name>, name: &Name) -> bool
     ensures { IsTrue result ↔ IsBehind after name.now }
 {

@@ -25,8 +25,9 @@ const MOST_CHECKPOINT_BYTES: u64 = 386;
 impl<S: Saving> Session<S> {
     ghost use Rattle.rss_session.specs.Parts.{view};
 
-    /// What comes of a change of a transaction whose record has this size, of a tuple of the relation
-    /// of this number where there is one: whether a checkpoint comes before it, or why it is refused.
+    /// What comes of a change of a transaction whose record has this size: whether a checkpoint
+    /// comes before it, or why it is refused. `number` is that of the relation, if the change is
+    /// one of a tuple.
     pub(crate) fn weigh(
         &self,
         transaction: u32,
@@ -92,7 +93,7 @@ impl<S: Saving> Session<S> {
         size + owed_for(sums.p + 1, sums.q + u64::from(first))
     }
 
-    /// Whether there are as many slots as may be needed behind a checkpoint, and images have no more
+    /// Whether there are as many slots as may be needed after a checkpoint, and images have no more
     /// pages than they may.
     pub(crate) fn has_saved_room(&self) -> bool
         requires ready { CanSave (view S.view self.now) }
@@ -103,7 +104,7 @@ impl<S: Saving> Session<S> {
         room <= u64::from(self.store.slots()) && u64::from(self.image_pages()) <= images
     }
 
-    /// How many bytes the log has room for behind a checkpoint.
+    /// How many bytes the log has room for after a checkpoint.
     fn saved_free(&self) -> u64
         requires ready { IsReady (view S.view self.now) }
         requires early { IsEarly (view S.view self.now) longest_record }

@@ -43,7 +43,7 @@ impl Column {
         })
     }
 
-    /// The slot of the page with this number.
+    /// The slot of the page `number`.
     pub(crate) fn slot(&self, number: u32) -> Option<u16>
         ensures { result ≡ slice_index_or self.now number None }
     {

@@ -77,7 +77,7 @@ impl PageIndex {
         column.clear(key.number);
     }
 
-    /// The least number of a segment and a space whose page has no slot. There is one where fewer
+    /// The least number of a segment and a space whose page has no slot. There is one if fewer
     /// pages have a slot than there are numbers.
     pub(crate) fn least_free(&self, segment: u8, space: Space) -> Option<u32>
         requires low { 1 ≤ segment }

@@ -17,7 +17,7 @@ const WORD_BITS: u32 = 64;
 /// The numbers below a bound, of which some are in use.
 ///
 /// A bit for each number tells whether it is in use. Over these stands a bit for each word, which
-/// tells whether all its bits are set, and over those the same once more: so the first number from
+/// tells whether all its bits are set, and over those the same once more. So the first number from
 /// one on that isn't in use is found by looking at five words at most.
 #[derive(Drop)]
 pub(crate) struct NumberSet {
@@ -126,7 +126,7 @@ fn first_clear(words: &[u64], from: u32, next: Option<u32>) -> Option<u32>
     clear_in_word(words, next? * WORD_BITS)
 }
 
-/// The first bit from this one on that is clear, where this bit's word has one.
+/// The first bit from this one on that is clear, if this bit's word has one.
 fn clear_in_word(words: &[u64], from: u32) -> Option<u32>
     ensures some { IfSome result (IsFirstFrom (IsClear words.now) from) }
     ensures none { IfNone result (IsSetOn words.now from) }
@@ -190,7 +190,7 @@ fn clear_below(alloc: Global, bound: u32) -> Result<Vec<u64>, AllocError>
     Ok(bits)
 }
 
-/// A word whose bits from this one on are set; none where it is 0.
+/// A word whose bits from this one on are set; none if it is 0.
 fn set_from(bit: u32) -> u64
     requires { bit < 64 }
     ensures { IsSetFrom bit result }

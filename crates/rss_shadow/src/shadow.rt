@@ -89,7 +89,7 @@ impl Shadow {
         })
     }
 
-    /// The slot of a page, where the current map has it.
+    /// The slot of a page, if the current map has it.
     pub fn slot_of(&self, key: PageKey) -> Option<u32>
         ensures some { IfSome result (λ slot. owner_of self.now.current slot ≡ Some key) }
         ensures none { IfNone result (LacksPage self.now.current key) }
@@ -101,8 +101,8 @@ impl Shadow {
         }
     }
 
-    /// The slot to which a page is to be written: the one that it has, or, where the shadow map
-    /// uses that one, a free slot, which the page has from now on.
+    /// The slot to which a page is to be written: the one that it has, or, if the shadow map uses
+    /// that one, a free slot, which the page has from now on.
     pub fn first_write(&mut self, key: PageKey) -> u32
         requires { HasPage self.old.current key }
         ensures moves { MovesPage self.old self.new key result }
@@ -193,7 +193,7 @@ impl Shadow {
         self.images += image_pages(key.space);
     }
 
-    /// Unmaps a page. Its slot is free from now on, but where the shadow map uses it.
+    /// Unmaps a page. Its slot is free from now on, unless the shadow map uses it.
     pub fn give(&mut self, key: PageKey)
         requires { HasPage self.old.current key }
         ensures loses { LosesPage self.old self.new key }
@@ -278,7 +278,7 @@ fn remove_unowned(used: &mut NumberSet, owners: &[Option<PageKey>])
     }
 }
 
-/// 1 for the spaces whose pages are counted as heap, else 0.
+/// 1 for the spaces whose pages are counted as heap, otherwise 0.
 fn heap_pages(space: Space) -> u32
     ensures { result ≡ (if is_heap_space space then 1 else 0) }
 {
@@ -288,7 +288,7 @@ fn heap_pages(space: Space) -> u32
     }
 }
 
-/// 1 for the space of images, else 0.
+/// 1 for the space of images, otherwise 0.
 fn image_pages(space: Space) -> u32
     ensures { result ≡ (if is_image_space space then 1 else 0) }
 {

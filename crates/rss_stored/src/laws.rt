@@ -44,8 +44,8 @@ pub fn openings_tie()
     ensures restart { RestartTies }
 {}
 
-/// Where a state is tied to an engine's log, what is on the disk of it is the log of a store with the
-/// committed tables, and has room for a restart, whatever is in memory alone.
+/// If a state is tied to an engine's log, what is on the disk of it is the log of a store with the
+/// committed tables. It has room for a restart, whatever is only in memory.
 pub fn disk_has_log()
     ensures log { DiskHasLog }
     ensures room { DiskHasRoom }

@@ -150,8 +150,8 @@ fn joined_modes(rt: HostRuntime) -> Result<(), Fail> {
 /// The locks on one item, in the order in which they were taken: whose each is, and its mode.
 type Row = Vec<(u32, usize)>;
 
-/// The least transaction besides one with a lock that a mode disagrees with, or with any lock where
-/// no mode is given.
+/// The least transaction other than `besides` with a lock that a mode disagrees with, or with any
+/// lock if no mode is given.
 fn least(row: &[(u32, usize)], besides: Option<u32>, mode: Option<usize>) -> Option<u32> {
     let mut least: Option<u32> = None;
     for lock in row {

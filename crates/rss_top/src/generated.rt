@@ -50,7 +50,7 @@ impl GeneratedScript {
         }
     }
 
-    /// Makes the next line, where the one before it was given and there is one more.
+    /// Makes the next line, if the one before it was given and there is one more.
     fn advance(&mut self) -> Result<(), AllocError>
         ensures same { view_of self.new ≡ view_of self.old }
         ensures more { OnOk result (self.new.given ≡ length self.new.line

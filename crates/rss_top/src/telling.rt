@@ -85,7 +85,7 @@ fn append_echo(line: &[u8], heard: &Heard, text: &mut Vec<u8>) -> Result<(), All
     }
 }
 
-/// Tells the replies alone.
+/// Tells only the replies.
 #[derive(Drop)]
 pub struct Plain;
 

@@ -31,8 +31,8 @@ fn say_tally<K: Sink>(alloc: Global, tally: &Tally, sink: &mut K) -> Status
     end_with(Status::Ok, line.as_bytes(), sink)
 }
 
-/// Writes what a trial tells whose script got these replies, by how its run ended. Source and sink of
-/// that run lack memory alone.
+/// Writes what a trial tells whose script got these replies, by how its run ended. Source and sink
+/// of that run lack only memory.
 fn tell<K: Sink>(alloc: Global, ran: Status, replies: &[u8], sink: &mut K) -> Status
     requires short { ran ≡ Status.TooLong → ⊥ }
     requires words { ran ≡ Status.Words → ⊥ }

@@ -1,6 +1,6 @@
 //! A tour of a stop: runs the script of standard input over a new store of 64 slots and 8 log pages
-//! in memory, and tells of each moment of it which page was written, and which tables a stop there
-//! leaves, by what it leaves of the pages that weren't synced.
+//! in memory. It tells of each moment of the run which page was written. It also tells which tables
+//! a stop there leaves, by what it leaves of the pages that weren't synced.
 #![tactic(auto)]
 
 mod pages;

@@ -19,8 +19,8 @@ fn first_other(before: &[Page], after: &[Page]) -> Option<u64> {
     None
 }
 
-/// The first page that a stop leaves otherwise than one a moment earlier, where the pages that
-/// weren't synced are left so.
+/// The first page that a stop leaves otherwise than one a moment earlier, if the pages that weren't
+/// synced are left so.
 fn first_change(
     alloc: Global,
     device: &MemDevice,
@@ -72,7 +72,7 @@ fn left(alloc: Global, device: &MemDevice, moment: usize, unsynced: Unsynced) ->
     Ok(format!(in alloc; "{values:?}")?)
 }
 
-/// The same where the pages that weren't synced are old, new, and all ones.
+/// The same for pages that weren't synced and are old, new, and all ones.
 pub(crate) fn left_at(alloc: Global, device: &MemDevice, moment: usize) -> Result<[String; 3]>
     requires { moment ≤ (view_of device.now).disk.moment }
 {

@@ -42,7 +42,7 @@ impl HeldLines {
         }
     }
 
-    /// Holds a line behind all others. Want of memory changes nothing.
+    /// Holds a line after all others. Want of memory changes nothing.
     pub fn push(&mut self, owner: u32, number: u32, line: &[u8]) -> Result<(), AllocError>
         requires { AreBefore number self.old }
         ensures held { OnOk result (self.new

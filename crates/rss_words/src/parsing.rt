@@ -76,7 +76,7 @@ fn rss<'a>(alloc: Global) -> Result<clap::Command<'a>, AllocError>
         .subcommand(task_row(alloc, "talk")?)
 }
 
-/// The command of good words. clap refuses them for want of memory alone.
+/// The command of good words. clap refuses them only for want of memory.
 pub fn parse(alloc: Global, words: &[String]) -> Result<Command, AllocError>
     requires { IsCommand (map string_bytes words.now) }
     ensures { IfOk result (AskFor (map string_bytes words.now)) }

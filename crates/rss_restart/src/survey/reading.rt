@@ -11,8 +11,8 @@ use rss_base::{LogRecord, PageFault, Place};
 use rss_log::Log;
 use std::alloc::Global;
 
-/// Reads the records from one position up to another. It is `Damaged` where no record begins, and at
-/// the other position where a record goes beyond it.
+/// Reads the records from one position up to another. It is `Damaged` at a position at which no
+/// record begins, and at the other position if a record goes beyond it.
 pub(crate) fn read_records(
     alloc: Global,
     log: &Log,
@@ -39,9 +39,9 @@ pub(crate) fn read_records(
     Ok(events)
 }
 
-/// The record that begins at a position and ends at another one at most, and the position behind it.
+/// The record that begins at a position and ends at another one at most, and the position after it.
 /// It takes no memory. Its one error is damage: at the position where no record begins, and at the
-/// other one where a record goes beyond it.
+/// other one if a record goes beyond it.
 fn next_record(log: &Log, at: u64, until: u64) -> Result<(Placed, u64), PageFault>
     requires low { log.now.head ≤ at }
     requires some { at < until }
