@@ -5,7 +5,7 @@
 # those that should be.
 #
 # usage: edge.sh [PROGRAM]
-# PROGRAM is the launcher `rss` beside this folder where it isn't given. Its files lie in a folder of
+# PROGRAM is the launcher `rss` beside this folder if none is given. Its files lie in a folder of
 # their own below TMPDIR, or /tmp. The counts of system calls need strace; without it they are left out.
 set -uo pipefail
 

@@ -3,9 +3,9 @@
 # docs/PERFORMANCE.md says what is compared, and what is not.
 #
 # usage: speed.sh [RUNS [WAIT]]
-# RUNS is 5 where it isn't given. For at most WAIT seconds in all, 0 where it isn't given, the script
+# RUNS is 5 if none is given. For at most WAIT seconds in all, 0 if none is given, the script
 # waits for a moment at which no process wants a processor that another has.
-# It needs sqlite3, awk and GNU's dd, and uses strace and GNU's time where they are there. Its files
+# It needs sqlite3, awk and GNU's dd, and uses strace and GNU's time if they are there. Its files
 # lie in a folder of their own below TMPDIR, or /tmp, and take at most 1 GB.
 set -euo pipefail
 

@@ -12,8 +12,8 @@ enum { RSS_PAGE_BYTES = 4096 };
 /* How a call ended: the exit status of the program (docs/SCRIPT.md), or a number above these. */
 enum {
     RSS_OK = 0,
-    RSS_WRITE_FAULT = 3,    /* a text found no room, which a line of the engine always does */
-    RSS_DEVICE_FAULT = 4,   /* no memory was found for a step */
+    RSS_WRITE_FAULT = 3,    /* the text failed, as one without room for a line does */
+    RSS_DEVICE_FAULT = 4,   /* the store's device failed, or a step is gone that wasn't taken */
     RSS_NOT_A_STORE = 5,    /* the layout of the bytes is out of form; the text tells the place */
     RSS_NO_MEMORY = 6,
     RSS_TOO_LONG = 7,       /* 2^32 - 2 calls were made since the opening */

@@ -1,4 +1,4 @@
-"""Tells what stands in the file of a store, or draws it. It reads the file alone, and writes none; a run that
+"""Tells what stands in the file of a store, or draws it. It only reads the file; a run that
 has it open may be within a write. What is no store is told in one line, with the place at which it isn't."""
 from __future__ import annotations
 

@@ -112,7 +112,7 @@ class Root:
 
     @property
     def log_free(self) -> int:
-        """How many bytes may come behind the log's end."""
+        """How many bytes may come after the log's end."""
         return (self.head // PIECE_BYTES + self.log_pages + 1) * PIECE_BYTES - 1 - self.end
 
     @property

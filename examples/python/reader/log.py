@@ -21,7 +21,7 @@ LENGTH = Struct(">H")
 
 @dataclass(frozen=True)
 class TupleChange:
-    """An Insert, a Delete or an Update: the bytes of the values before it and behind it."""
+    """An Insert, a Delete or an Update: the bytes of the values before it and after it."""
 
     by: int
     relation: int
@@ -35,7 +35,7 @@ class TupleChange:
 
 @dataclass(frozen=True)
 class ChainChange:
-    """A Connect or a Disconnect of a child right behind the tuple left, or as the first one."""
+    """A Connect or a Disconnect of a child right after the tuple left, or as the first one."""
 
     by: int
     link: int
@@ -75,7 +75,7 @@ Record = Change | Restore | End | Abort | Checkpoint
 
 
 class Reader:
-    """Reads the fields of records one behind the other."""
+    """Reads the fields of records one after another."""
 
     def __init__(self, data: bytes) -> None:
         self.data = data

@@ -306,7 +306,7 @@ class State:
         places = list(self.store.records)
         left_out = max(0, len(places) - RECORDS_MOST)
         y = self.below_parts + 28
-        words = "records" if left_out == 0 else f"records, behind {left_out} others"
+        words = "records" if left_out == 0 else f"records, after {left_out} others"
         self.parts.append(text(RECORD_X, y - 4, words, class_="small"))
         for k, at in enumerate(places[left_out:]):
             self.draw_record(at, y + k * RECORD_HEIGHT)

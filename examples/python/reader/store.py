@@ -57,7 +57,7 @@ class Store:
                 return f"{kind} by {by}: {self.tuple_name(relation, tid)}"
             case ChainChange(by, link, parent, child, left, connects):
                 kind = "Connect" if connects else "Disconnect"
-                place = "first" if left is None else f"behind {left}"
+                place = "first" if left is None else f"after {left}"
                 return f"{kind} by {by}: {child} in {self.chain_name(link, parent)}, {place}"
             case Restore(by, position):
                 return f"Restore by {by}: back to {position}"
@@ -70,7 +70,7 @@ class Store:
                 return f"Checkpoint: {marks or 'none'} open"
 
     def record_values(self, record: Record) -> str:
-        """The values before and behind a change of a tuple; of another record nothing."""
+        """The values before and after a change of a tuple; of another record nothing."""
         if not isinstance(record, TupleChange):
             return ""
         sides = (side for side in (record.old, record.new) if side is not None)

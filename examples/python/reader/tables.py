@@ -40,7 +40,7 @@ def read_entry(pages: Pages, key: Key, slot: int) -> bytes:
 
 
 def read_body(pages: Pages, key: Key, slot: int) -> bytes | None:
-    """The body of an entry, also behind a forward, if it isn't empty."""
+    """The body of an entry, also by a forward, if it isn't empty."""
     entry = read_entry(pages, key, slot)
     if not any(entry):
         return None
@@ -185,7 +185,7 @@ def make(tables: Tables, at: int, change: Change) -> None:
 
 def recover(saved: Tables, found: dict[int, Fate], checkpoint: int) -> Tables:
     """The tables to which a store opens: changes that were listed at the checkpoint and aren't committed are
-    undone, the newest first, and those behind it that are committed are made, in their order."""
+    undone, the newest first, and those after it that are committed are made, in their order."""
     tables = deepcopy(saved)
     for at, fate in reversed(found.items()):
         is_listed = at < checkpoint and (fate.at is None or fate.at > checkpoint)

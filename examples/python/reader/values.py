@@ -18,7 +18,7 @@ def read_text(data: bytes) -> str:
 
 
 def read_original(data: bytes, field: Field) -> tuple[Value, bytes]:
-    """The value of a field without a mark, and the bytes behind it."""
+    """The value of a field without a mark, and the bytes after it."""
     if field.text is None:
         require(len(data) >= INT_BYTES)
         return int.from_bytes(data[:INT_BYTES], signed=True), data[INT_BYTES:]
@@ -28,7 +28,7 @@ def read_original(data: bytes, field: Field) -> tuple[Value, bytes]:
 
 
 def read_value(data: bytes, field: Field) -> tuple[Value, bytes]:
-    """The value of a field, which is none if it is undefined, and the bytes behind it."""
+    """The value of a field, which is none if it is undefined, and the bytes after it."""
     if not field.added:
         return read_original(data, field)
     if not data:
