@@ -1,0 +1,16 @@
+use Rattle.std.proofs.Common.{◌∙◌, ap}
+use Rattle.rss_draft.specs.Views.{Entries, said, bytes_of, with_values, with_count}
+use Rattle.rss_draft.proofs.Says.{count_more}
+use Rattle.rss_draft.proofs.draft.Draft.put_count.Goals as goal
+
+pub returns : goal.returns
+returns c =
+    let old : Entries = record {
+      tuples = with_values bytes_of c.self.inside.tuples.entries;
+      chains = with_values (λ tids. tids.items) c.self.inside.chains.entries;
+      standings = c.self.inside.standings.entries;
+      owners = c.self.inside.owners.entries;
+      counts = c.self.inside.counts.entries;
+    } in
+    count_more c.args.relation c.args.count c.insert.new.self.entries old c.in_ok-insert.ensures.updates.0
+    ∙ ap (λ (v : Entries). with_count c.args.relation c.args.count (said v)) c.self.view_is

@@ -1,0 +1,4 @@
+pub mod Fitting
+pub mod Views
+pub mod Drafts
+pub mod Lookups
