@@ -13,8 +13,8 @@ use Rattle.rss_device.specs.declared.step_device.StepDevice.{StepDevice}
 use Rattle.rss_model.specs.Tables.{no_tables}
 use Rattle.rss_stored.specs.Store.{OpensTo}
 use Rattle.rss_stored.proofs.Stores.{store_unbroken}
+use Rattle.rss_check.specs.Refused.{IsRefused, IsUnopened}
 use Rattle.rss_store.specs.Formatted.{AreSizes}
-use Rattle.rss_store.specs.Opening.{IsRefused, IsUnopened}
 use Rattle.rss_c.specs.Stores.{FailsFor, HasFailed, IsUnmade}
 use Rattle.rss_c.specs.declared.open_store.Refused.{Refused}
 

@@ -22,8 +22,9 @@ use Rattle.rss_model.specs.Meter.{room_number, log_room}
 use Rattle.rss_model.specs.Script.{IsNameWord}
 use Rattle.rss_model.specs.Tables.{no_tables}
 use Rattle.rss_stored.specs.Store.{OpensTo}
+use Rattle.rss_check.specs.Refused.{IsRefused}
 use Rattle.rss_store.specs.Formatted.{AreSizes, HoldsFormatted}
-use Rattle.rss_store.specs.Opening.{IsRefused, HasFrames}
+use Rattle.rss_store.specs.Opening.{HasFrames}
 use Rattle.rss_rsi.specs.Opening.{OpensOver}
 use Rattle.rss_rsi.specs.Parts.{pages_below, session_of, view}
 use Rattle.rss_rsi.specs.Scanning.{IsOfLevels}

@@ -65,7 +65,7 @@ pub struct OpenStore {
 impl OpenStore {
     ghost use Rattle.std.specs.Prelude.{◌≤◌, false, IfOk, IfErr, IsTrue};
     ghost use Rattle.rss_device.specs.StepDevice.{view_of};
-    ghost use Rattle.rss_store.specs.Opening.{IsUnopened};
+    ghost use Rattle.rss_check.specs.Refused.{IsUnopened};
     ghost use Rattle.rss_c.specs.Texts.{text_view, empty_text};
     ghost use Rattle.rss_c.specs.Stores.{device_in, AreRefused, FailsFor, IsMadeOf, IsOpenedOn, IsOver, IsUnmade};
     ghost use Rattle.rss_c.specs.Stores.{HasCounts, HasNoStep, HasPage, IsLevelsOf, IsLineEnd, TakesStep};

@@ -45,7 +45,7 @@ back Items = refl
 back Way = refl
 back Room = refl
 
-same_line : (a b : Line) → line_number a ≡ line_number b → a ≡ b
+pub same_line : (a b : Line) → line_number a ≡ line_number b → a ≡ b
 same_line a b is = sym (back a) ∙ ap line_at is ∙ back b
 
 -- ---- places of one line by their numbers

@@ -1,7 +1,21 @@
 mod Bared
 mod Laying
-mod RowsHad
 mod FirstFaults
 mod NoFaults
 mod Faultless
 mod Firsts
+pub mod Refused
+pub mod Empties
+pub mod Made
+pub mod Rows
+pub mod Found
+pub mod Census
+pub mod DifferentKeys
+pub mod LookedImages
+pub mod LookedLinks
+pub mod Looked
+pub mod Orders
+pub mod SegmentFirst
+pub mod SegmentsFirst
+pub mod Completing
+pub mod TupleFaults

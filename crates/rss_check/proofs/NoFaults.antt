@@ -57,17 +57,19 @@ use Rattle.rss_entries.proofs.Orders.{in_contains}
 use Rattle.rss_access.specs.Bodies.{is_body}
 use Rattle.rss_access.specs.Changes.{AccessView, both}
 use Rattle.rss_access.specs.Checking.{ShowsTuples, IsSound}
-use Rattle.rss_store.specs.Checks.{count_of, IsSegmentOf, AreSound}
+use Rattle.rss_check.specs.Checks.{count_of, IsSegmentOf, AreSound}
 use Rattle.rss_check.specs.Layouts.{Laid, held_in}
 use Rattle.rss_check.specs.Spellings.{AreSuited, Spelling, held_of}
-use Rattle.rss_check.specs.Rows.{HasRows, HasLists}
+use Rattle.rss_check.specs.Rows.{HasLists}
 use Rattle.rss_check.specs.Logs.{IsRead, IsOver}
 use Rattle.rss_check.specs.Lines.{Line}
 use Rattle.rss_check.specs.Faults.{IsHeapPage, Breaks, layout, unmapped, undefined, heap_page, entry, unled, count, image, unused, link, no_record, marks, shared, no_way, no_room, StoresHaveNone}
 use Rattle.rss_check.proofs.Bared.{AllSay, bared, bytes_twice, lists_twice, along_twice, lone_at, long_twice, of_twice, changes_twice, changes_of_twice}
-use Rattle.rss_store.proofs.Found.{spelled_segment, links_spelled, shows_spelled, sound_spelled}
+use Rattle.rss_check.proofs.Found.{spelled_segment, links_spelled, shows_spelled, sound_spelled}
 use Rattle.rss_check.proofs.Laying.{allowed_in}
-use Rattle.rss_check.proofs.RowsHad.{contains_in, rows_had}
+use Rattle.rss_access.specs.Rows.{HasRows}
+use Rattle.rss_access.proofs.AsMany.{contains_in}
+use Rattle.rss_access.proofs.RowsHad.{rows_had}
 
 -- ---- pages that only hold
 

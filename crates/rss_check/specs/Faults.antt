@@ -1,5 +1,5 @@
 -- At which places the lines of a check are broken, and the first of these: there pages are no store.
-use Rattle.std.specs.Prelude.{◌≡◌, ◌≢◌, ℕ, ◌<◌, true, List, [], ◌∷◌, ◌++◌, Contains, Some, None, is_some}
+use Rattle.std.specs.Prelude.{◌≡◌, ◌≢◌, ℕ, ◌<◌, ◌≤◌, true, List, [], ◌∷◌, ◌++◌, Contains, Some, None, is_some}
 use Rattle.rss_base.specs.DiskRule.{Pages}
 use Rattle.rss_base.specs.Sizes.{system_pages}
 use Rattle.rss_base.specs.LogPages.{log_bytes}
@@ -29,11 +29,12 @@ use Rattle.rss_model.specs.Meanings.{Logged, as_entries}
 use Rattle.rss_model.specs.Meter.{room_number}
 use Rattle.rss_stored.specs.Store.{Stored, IsStore, HasLog, IsListedImage, IsBrokenAt, meter_of}
 use Rattle.rss_access.specs.Bodies.{is_body}
-use Rattle.rss_store.specs.Checks.{count_of}
-use Rattle.rss_check.specs.Lines.{Line, Layout, SystemPages, Definitions, HeapPages, Entries, Led, Counts, Images, Reached, Links, Records, Marks, Items, Way, Room, line_number, ComesBefore}
+use Rattle.rss_access.specs.Rows.{HasRows}
+use Rattle.rss_check.specs.Checks.{count_of}
+use Rattle.rss_check.specs.Lines.{Line, Layout, SystemPages, Definitions, HeapPages, Entries, Led, Counts, Images, Reached, Links, Records, Marks, Items, Way, Room, line_number, IsFirst}
 use Rattle.rss_check.specs.Layouts.{Laid, held_in}
 use Rattle.rss_check.specs.Spellings.{AreSuited, Spelling, held_of}
-use Rattle.rss_check.specs.Rows.{HasRows, HasLists}
+use Rattle.rss_check.specs.Rows.{HasLists}
 use Rattle.rss_check.specs.Logs.{IsRead, IsOver}
 
 -- ---- pages of tuples
@@ -111,12 +112,13 @@ pub data Breaks (pages : Pages) : Line → Place → Type 0 where
 -- ---- the first place
 
 -- The first place at which pages are no store: no earlier line is broken anywhere, and this one nowhere before it.
-pub record IsFirstFault (pages : Pages) (place : Place) : Type 0 where
-  pub line : Line
-  pub breaks : Breaks pages line place
-  pub earlier : (other : Line) (elsewhere : Place) → line_number other < line_number line
-      → Breaks pages other elsewhere → ⊥
-  pub least : (other : Place) → Breaks pages line other → ComesBefore other place → ⊥
+abbrev pub IsFirstFault : Pages → Place → Type 0
+IsFirstFault pages place = IsFirst (Breaks pages) place
+
+-- no line up to this one is broken anywhere
+abbrev pub ArePassed : Pages → Line → Type 0
+ArePassed pages last =
+    (line : Line) (place : Place) → line_number line ≤ line_number last → Breaks pages line place → ⊥
 
 -- the pages are a store
 pub record AreStore (pages : Pages) : Type 0 where

@@ -1,6 +1,11 @@
 pub mod Lines
 pub mod Layouts
+pub mod Refused
+pub mod Checks
+pub mod Looks
 pub mod Spellings
 pub mod Rows
 pub mod Logs
 pub mod Faults
+pub mod Tuples
+pub mod Passed

@@ -1,5 +1,5 @@
 -- The lines of a check in their order, and the order of the places in one line.
-use Rattle.std.specs.Prelude.{◌≡◌, ℕ, List, [], ◌∷◌}
+use Rattle.std.specs.Prelude.{◌≡◌, ℕ, ◌<◌, List, [], ◌∷◌, Option, Some, None}
 use Rattle.std.specs.Ordering.{nat_cmp}
 use Rattle.std.specs.declared.cmp.Ordering.TheVariants.{Less}
 use Rattle.std.specs.Cmp.Lexicographic.{slice_cmp}
@@ -58,3 +58,27 @@ numbers_of RoomPlace = []
 
 abbrev pub ComesBefore : Place → Place → Type 0
 ComesBefore a b = slice_cmp nat_cmp (numbers_of a) (numbers_of b) ≡ Less
+
+-- ---- the first place
+
+-- Of the places at which lines are broken it is the first: no earlier line is broken anywhere, and this one nowhere before it.
+pub record IsFirst (broken : Line → Place → Type 0) (place : Place) : Type 0 where
+  pub line : Line
+  pub breaks : broken line place
+  pub earlier : (other : Line) (elsewhere : Place) → line_number other < line_number line
+      → broken other elsewhere → ⊥
+  pub least : (other : Place) → broken line other → ComesBefore other place → ⊥
+
+-- of the places of one line it is the first
+pub record IsLeast (broken : Place → Type 0) (place : Place) : Type 0 where
+  pub breaks : broken place
+  pub least : (other : Place) → broken other → ComesBefore other place → ⊥
+
+-- no line is broken anywhere
+abbrev pub AreUnbroken : (Line → Place → Type 0) → Type 0
+AreUnbroken broken = (line : Line) (place : Place) → broken line place → ⊥
+
+-- it is the first such place, and there is none if there is no first one
+abbrev pub IsFirstIfAny : (Line → Place → Type 0) → Option Place → Type 0
+IsFirstIfAny broken None = AreUnbroken broken
+IsFirstIfAny broken (Some place) = IsFirst broken place

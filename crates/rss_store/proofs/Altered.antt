@@ -25,9 +25,10 @@ use Rattle.rss_access.proofs.Relisting.{relists_same}
 use Rattle.rss_restart.specs.Restarting.{KeepsCatalog}
 use Rattle.rss_restart.proofs.Keeping.{keeps_itself, keeps_made}
 use Rattle.rss_restart.proofs.Leading.{content_told}
+use Rattle.rss_check.specs.Layouts.{IsLogBehind}
 use Rattle.rss_store.specs.Changing.{AltersPages, access}
 use Rattle.rss_store.specs.Shown.{LeavesStore}
-use Rattle.rss_store.specs.Stores.{StoreView, IsLogBehind, IsReady}
+use Rattle.rss_store.specs.Stores.{StoreView, IsReady}
 use Rattle.rss_store.proofs.Definitions.{same_then}
 use Rattle.rss_store.proofs.Spelled.{system_kept}
 

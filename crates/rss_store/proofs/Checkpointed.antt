@@ -24,6 +24,7 @@ use Rattle.rss_log.specs.Logs.{LogView, IsLog, HasRecords, bytes_from, piece_sta
 use Rattle.rss_buffer.specs.Saved.{IsSaveable}
 use Rattle.rss_buffer.specs.Saving.{SavingView, first_slot, AreSaveable, SavingStep}
 use Rattle.rss_buffer.proofs.SavingSteps.{saving_then, none_changed}
+use Rattle.rss_check.specs.Layouts.{IsLogBehind}
 use Rattle.rss_store.proofs.Pieces.{slots_still, mapped_still}
 use Rattle.rss_catalog.specs.Catalogs.{CatalogView, pending_pages, StoresListing}
 use Rattle.rss_access.specs.Written.{heap_now}
@@ -44,7 +45,7 @@ use Rattle.rss_stored.proofs.LogPlaced.{bytes_append}
 use Rattle.rss_stored.proofs.LogStored.{disk_has_log, disk_has_room}
 use Rattle.rss_model.proofs.Sparing.{session_begins}
 use Rattle.rss_stored.proofs.StorePages.{pages_split}
-use Rattle.rss_store.specs.Stores.{StoreView, IsReady, IsSaved, IsLogBehind}
+use Rattle.rss_store.specs.Stores.{StoreView, IsReady, IsSaved}
 use Rattle.rss_store.specs.Commits.{HasLogRoom, CanCheckpoint, IsSavedStore, least_mark, Saves, StandsAtCheckpoint}
 use Rattle.rss_store.specs.Selecting.{IsMeant, CanSelect, IsNextStore}
 use Rattle.rss_store.specs.Shown.{HoldsLogged, LeavesStore, Shows}

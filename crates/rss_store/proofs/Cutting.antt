@@ -10,8 +10,9 @@ use Rattle.rss_model.specs.EngineLogs.{appended}
 use Rattle.rss_stored.specs.LogLaws.{RestoreTies, AbortTies}
 use Rattle.rss_stored.specs.Store.{SpellsTables}
 use Rattle.rss_model.proofs.Metering.{kept_none}
+use Rattle.rss_check.specs.Layouts.{IsLogBehind}
 use Rattle.rss_store.specs.Changing.{CutsAt, CutsAll}
-use Rattle.rss_store.specs.Stores.{StoreView, IsLogBehind, IsReady}
+use Rattle.rss_store.specs.Stores.{StoreView, IsReady}
 use Rattle.rss_store.proofs.Growing.{Appends, logged_appended}
 use Rattle.rss_store.proofs.Ways.{stands}
 

@@ -16,6 +16,7 @@ use Rattle.rss_base.proofs.Moments.{widened}
 use Rattle.rss_log.specs.Logs.{LogView, HasRecords, tail_of}
 use Rattle.rss_catalog.specs.Catalogs.{CatalogView}
 use Rattle.rss_access.specs.Changes.{CanAlter}
+use Rattle.rss_check.specs.Layouts.{IsLogBehind}
 use Rattle.rss_store.specs.Changing.{access}
 use Rattle.rss_access.specs.Written.{AreWritten}
 use Rattle.rss_model.specs.Tables.{Contents}
@@ -35,7 +36,7 @@ use Rattle.rss_model.proofs.LogTying.{lone_last}
 use Rattle.rss_stored.proofs.LogSteps.{end_ties}
 use Rattle.rss_stored.proofs.LogStored.{disk_has_log, disk_has_room}
 use Rattle.rss_model.proofs.Sparing.{session_forgets}
-use Rattle.rss_store.specs.Stores.{StoreView, IsReady, IsLogBehind}
+use Rattle.rss_store.specs.Stores.{StoreView, IsReady}
 use Rattle.rss_store.specs.Commits.{HasLogRoom, MayCommit}
 use Rattle.rss_store.specs.Selecting.{IsMeant, CanSelect, IsNextStore, Selects}
 use Rattle.rss_store.specs.Shown.{HoldsTables, HoldsLogged, Shows}

@@ -36,14 +36,14 @@ use Rattle.rss_stored.proofs.FirstLog.{first_stored as stored, first_log}
 use Rattle.rss_model.proofs.Fitting.{no_tables_fit}
 use Rattle.rss_stored.proofs.PlainStores.{plain_images, plain_nodes}
 use Rattle.rss_stored.proofs.Listed.{at_place}
+use Rattle.rss_check.proofs.Empties.{entry_none, linked_none}
+use Rattle.rss_check.proofs.Looked.{times, times_most}
+use Rattle.rss_check.proofs.Made.{listing_defines}
+use Rattle.rss_check.proofs.Rows.{Each, each_drop, each_take}
 use Rattle.rss_store.specs.Formatted.{first_root, first_owners, IsFormatted}
 use Rattle.rss_store.proofs.FirstOwners.{owner_first, owner_is}
-use Rattle.rss_store.proofs.Empties.{entry_none, linked_none}
 use Rattle.rss_stored.proofs.StorePages.{held_mapped, owners_split, first_room}
 use Rattle.rss_stored.proofs.Versions.{suits_any}
-use Rattle.rss_store.proofs.Looked.{times, times_most}
-use Rattle.rss_store.proofs.Made.{listing_defines}
-use Rattle.rss_store.proofs.Rows.{Each, each_drop, each_take}
 
 -- ---- its pages
 

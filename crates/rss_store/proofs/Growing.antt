@@ -4,12 +4,13 @@ use Rattle.std.proofs.lemmas.List.{drop-append-le, length-append, map-append}
 use Rattle.rss_base.specs.LogRecords.{Placed, ArePlaced, record_bytes, record_size}
 use Rattle.rss_base.specs.declared.log_record.LogRecord.{LogRecord}
 use Rattle.rss_base.specs.declared.root.Root.{Root}
+use Rattle.rss_check.specs.Layouts.{IsLogBehind, appended_since}
 use Rattle.rss_store.proofs.Nexts.{seamed}
 use Rattle.rss_log.specs.Logs.{LogView, bytes_from, HasRecords, piece_start, free_of, with_bytes}
 use Rattle.rss_model.specs.Records.{LogEntry}
 use Rattle.rss_model.specs.Meanings.{Logged, as_bytes}
 use Rattle.rss_model.specs.EngineLogs.{EngineLog, all_logged, appended}
-use Rattle.rss_store.specs.Stores.{StoreView, IsLogBehind, appended_since}
+use Rattle.rss_store.specs.Stores.{StoreView}
 use Rattle.rss_store.specs.Shown.{HoldsLogged}
 
 -- the log stays that of the root

@@ -9,14 +9,6 @@ mod Passed
 pub mod FirstOwners
 pub mod FirstStore
 pub mod Formats
-pub mod Empties
-pub mod Made
-pub mod Rows
-pub mod Found
-pub mod Census
-pub mod DifferentKeys
-pub mod LookedImages
-pub mod Looked
 pub mod Resting
 pub mod RoomsAtRest
 pub mod Read
@@ -29,4 +21,3 @@ pub mod Altered
 pub mod Making
 pub mod Turning
 pub mod Cutting
-pub mod LookedLinks

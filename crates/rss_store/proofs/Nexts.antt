@@ -18,9 +18,10 @@ use Rattle.rss_buffer.specs.Saving.{SavingView, AreSaveable}
 use Rattle.rss_model.specs.Spares.{page_counts}
 use Rattle.rss_stored.specs.Store.{Stored, IsStore}
 use Rattle.rss_access.specs.Changes.{CanAlter}
+use Rattle.rss_check.specs.Layouts.{IsLogBehind}
 use Rattle.rss_store.specs.Changing.{access}
 use Rattle.rss_catalog.specs.Catalogs.{HasSystemPages}
-use Rattle.rss_store.specs.Stores.{StoreView, IsLogBehind, IsReady}
+use Rattle.rss_store.specs.Stores.{StoreView, IsReady}
 use Rattle.rss_store.proofs.Places.{store_fixed}
 
 -- what holds where two facts do that a value brings

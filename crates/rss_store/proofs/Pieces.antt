@@ -25,8 +25,8 @@ use Rattle.rss_buffer.specs.declared.stage.Stage.{Stage}
 use Rattle.rss_buffer.specs.declared.stage.Stage.TheVariants.{Changing, Saved, Switched}
 use Rattle.rss_log.specs.Logs.{LogView, IsLog, bytes_from, piece_of, piece_start}
 use Rattle.rss_log.proofs.RingBytes.{ring_apart}
+use Rattle.rss_check.specs.Layouts.{IsLogBehind}
 use Rattle.rss_store.specs.Selecting.{HoldsPieces, HoldsPiecesWithin}
-use Rattle.rss_store.specs.Stores.{IsLogBehind}
 
 -- a full piece has all of its bytes
 pub length-piece_of : (log : LogView) (k : ℕ) → IsLog log → log.head / piece_bytes ≤ k → k < log.end / piece_bytes → length (piece_of log k) ≡ piece_bytes

@@ -27,9 +27,11 @@ use Rattle.rss_stored.specs.Store.{SpellsTables, AreNodesWithin, Stored, IsStore
 use Rattle.rss_stored.proofs.ListedOnce.{listing_once}
 use Rattle.rss_stored.proofs.Stores.{one_root, one_map}
 use Rattle.rss_access.specs.Changes.{both, HasTables as SomeTables}
+use Rattle.rss_check.specs.Layouts.{IsLayout, HasLayout, IsLogRead, HasLogBytes}
+use Rattle.rss_check.specs.Looks.{HoldsTables as PagesHoldTables, HoldsNone, FindsTables}
+use Rattle.rss_check.specs.Refused.{IsNoStore}
 use Rattle.rss_store.specs.Stores.{StoreView, IsReady, IsSaved}
-use Rattle.rss_store.specs.Looks.{HoldsTables as PagesHoldTables, HoldsNone, FindsTables}
-use Rattle.rss_store.specs.Opening.{IsLayout, HasLayout, IsLogRead, HasLogBytes, IsReadFrom, IsNoStore, IsFreeSlot, HasTables, ReadsFrom}
+use Rattle.rss_store.specs.Opening.{IsReadFrom, IsFreeSlot, HasTables, ReadsFrom}
 use Rattle.rss_store.proofs.Places.{held_slots, store_fixed}
 
 -- ---- pages that differ in free slots alone

@@ -23,8 +23,9 @@ use Rattle.rss_model.specs.Meanings.{Logged, as_bytes}
 use Rattle.rss_stored.specs.LogLaws.{HoldsLog}
 use Rattle.rss_stored.specs.Store.{Stored, IsStore}
 use Rattle.rss_stored.proofs.LogPlaced.{bytes_append}
+use Rattle.rss_check.specs.Layouts.{IsLogBehind, appended_since}
 use Rattle.rss_store.specs.Commits.{IsEndPlace, selector as as_selector, root as as_root, piece as as_piece}
-use Rattle.rss_store.specs.Stores.{StoreView, IsLogBehind, appended_since}
+use Rattle.rss_store.specs.Stores.{StoreView}
 use Rattle.rss_store.specs.Selecting.{HoldsPiecesWithin, CanSelect, IsNextStore, Selects}
 use Rattle.rss_store.proofs.Places.{IsNext, piece_place, saves_logging, store_growing, store_switching, store_switched}
 

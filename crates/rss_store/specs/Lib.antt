@@ -12,7 +12,5 @@ pub mod Commits
 pub mod Selecting
 pub mod Changing
 pub mod Parts
-pub mod Checks
-pub mod Looks
 pub mod Formatted
 pub mod Opening

@@ -1,7 +1,7 @@
 -- What an opening finds on a device, and the store to which it leads.
-use Rattle.std.specs.Prelude.{◌≡◌, ◌⊎◌, ℕ, ◌+◌, ◌*◌, ◌-◌, ◌^◌, ◌<◌, ◌≤◌, min, List, [], length, Option, Some, None, Result, Err, IsErrOf, OnOk, ⊤}
+use Rattle.std.specs.Prelude.{◌≡◌, ◌⊎◌, ℕ, ◌+◌, ◌*◌, ◌-◌, ◌<◌, ◌≤◌, min, List, [], Option, Some, None, Result, Err, IsErrOf, OnOk, ⊤}
 use Rattle.rss_base.specs.declared.fault.OpenFault.{OpenFault}
-use Rattle.rss_base.specs.declared.fault.OpenFault.TheVariants.{Device as DeviceFailed, NotAStore, Damaged, WrongSize, NoMemory as LacksMemory}
+use Rattle.rss_base.specs.declared.fault.OpenFault.TheVariants.{Device as DeviceFailed, NotAStore, Damaged}
 use Rattle.rss_base.specs.declared.fault.PageFault.{PageFault}
 use Rattle.rss_base.specs.declared.fault.PageFault.TheVariants.{Device as PageDevice, Damaged as PageDamaged}
 use Rattle.rss_base.specs.declared.log_record.LogRecord.TheVariants as records
@@ -9,14 +9,13 @@ use Rattle.rss_base.specs.declared.root.Root.{Root}
 use Rattle.rss_base.specs.declared.key.PageKey.{PageKey}
 use Rattle.rss_base.specs.declared.key.Space.TheVariants.{Image}
 use Rattle.rss_base.specs.declared.place.Place.{Place}
-use Rattle.rss_base.specs.declared.place.Place.TheVariants.{Room, Log as LogPlace}
+use Rattle.rss_base.specs.declared.place.Place.TheVariants.{Log as LogPlace}
 use Rattle.rss_base.specs.DiskRule.{Disk, Pages, Told, IsTold, Leaves, SameOff, Passes, Continues}
 use Rattle.rss_base.specs.Devices.{DeviceView, OnlyReads}
 use Rattle.rss_base.specs.Faults.{Rises}
-use Rattle.rss_base.specs.Layout.{map_at, log_at, slots_at, IsWellFormed, HasRoot}
-use Rattle.rss_base.specs.LogPages.{kept_from}
+use Rattle.rss_base.specs.Layout.{slots_at, HasRoot}
 use Rattle.rss_base.specs.LogRecords.{record_size, BeginsWith}
-use Rattle.rss_base.specs.PageMap.{owner_of, page_count, IsTable, IsMap}
+use Rattle.rss_base.specs.PageMap.{owner_of, page_count}
 use Rattle.rss_base.specs.Listings.{Listing}
 use Rattle.rss_base.specs.StoredPages.{held_at}
 use Rattle.rss_base.specs.Paged.{HasFixed, mapped_of}
@@ -33,30 +32,13 @@ use Rattle.rss_access.specs.Changes.{both}
 use Rattle.rss_access.specs.Written.{heap_now, AreWritten}
 use Rattle.rss_restart.specs.Opened.{IsOpened}
 use Rattle.rss_restart.specs.Surveys.{IsLogPlace}
-use Rattle.rss_store.specs.Stores.{StoreView, IsLogBehind, IsReady, IsSaved}
-use Rattle.rss_store.specs.Looks.{HoldsTables as PagesHoldTables}
+use Rattle.rss_check.specs.Layouts.{HasLayout, position_most}
+use Rattle.rss_check.specs.Looks.{HoldsTables as PagesHoldTables}
+use Rattle.rss_check.specs.Refused.{IsUnopened}
+use Rattle.rss_store.specs.Stores.{StoreView, IsReady, IsSaved}
 use Rattle.rss_store.specs.Shown.{HoldsTables, Shows}
 
--- ---- the layout
-
--- A store whose log ends here or behind isn't opened: the positions to which a session may come would be no numbers.
-abbrev pub position_most : ℕ
-position_most = 2 ^ 62
-
--- The root of this number and its map are such as a store has that is opened.
-pub record IsLayout (root : Root) (number : ℕ) (owners : List (Option PageKey)) : Type 0 where
-  pub number_low : 1 ≤ number
-  pub number_high : number ≤ 2
-  pub formed : IsWellFormed root
-  pub table : IsTable owners
-  pub slots : length owners ≡ root.slots
-  pub half : 2 * page_count owners ≤ length owners
-  pub early : root.end < position_most
-
--- the pages have this root and this map
-pub record HasLayout (pages : Pages) (root : Root) (number : ℕ) (owners : List (Option PageKey)) : Type 0 where
-  pub root_there : HasRoot pages number root
-  pub map : IsMap root.slots pages (map_at root.slots root.area) owners
+-- ---- the pages
 
 -- The pages that the selected root's map names spell tables, which fit.
 pub record HasTables (pages : Pages) : Type 0 where
@@ -67,16 +49,6 @@ pub record HasTables (pages : Pages) : Type 0 where
   pub there : HasLayout pages root number owners
   pub spelled : PagesHoldTables (held_at (slots_at root.slots root.log_pages) pages owners)
       root.slots listing
-
--- The log in memory is that of the root, up to the root's end.
-pub record IsLogRead (root : Root) (log : LogView) : Type 0 where
-  pub behind : IsLogBehind root log
-  pub end : log.end ≡ root.end
-
--- its bytes are those that the pages have
-abbrev pub HasLogBytes : Pages → Root → LogView → Type 0
-HasLogBytes pages root log =
-    log.kept ≡ kept_from pages (log_at root.slots) root.log_pages root.head root.end root.tail
 
 -- ---- a log at rest
 
@@ -156,31 +128,12 @@ pub record Begins {T : Type 0} (old new : StoreView) (result : Result T PageFaul
 
 -- ---- pages that don't open
 
--- the pages are no store
-abbrev pub IsNoStore : Pages → Type 0
-IsNoStore pages = (stored : Stored) → IsStore pages stored → ⊥
-
 -- The positions of the log are used up.
 pub record IsSpent (pages : Pages) : Type 0 where
   pub number : ℕ
   pub root : Root
   pub root_there : HasRoot pages number root
   pub end : position_most ≤ root.end
-
--- why the pages don't open
-pub record IsRefused (pages : Pages) (fault : OpenFault) : Type 0 where
-  pub broken : (place : Place) → fault ≡ NotAStore place → IsBrokenAt place pages
-  pub names : (place : Place) → IsBrokenAt place pages
-      → (fault ≡ NotAStore place) ⊎ (fault ≡ DeviceFailed) ⊎ (fault ≡ LacksMemory)
-  pub no_store : (place : Place) → fault ≡ Damaged place → IsNoStore pages
-  pub only_overfull : fault ≡ Damaged Room → IsOverfull pages
-  pub overfull : IsOverfull pages
-      → (fault ≡ Damaged Room) ⊎ (fault ≡ DeviceFailed) ⊎ (fault ≡ LacksMemory)
-
--- A device didn't open, and this is the fault: why, where it tells its contents.
-pub record IsUnopened (device : DeviceView) (fault : OpenFault) : Type 0 where
-  pub refused : Told device.disk (λ pages. IsRefused pages fault)
-  pub right_size : fault ≡ WrongSize → ⊥
 
 -- ---- what an opening passes on
 

@@ -16,7 +16,8 @@ use Rattle.rss_model.specs.Meanings.{Logged, as_bytes}
 use Rattle.rss_model.specs.Meter.{room_number}
 use Rattle.rss_stored.specs.LogLaws.{HoldsLog}
 use Rattle.rss_stored.specs.Store.{Stored, SpellsTables, AreNodesWithin, HasLog, meter_of, IsStore}
-use Rattle.rss_store.specs.Stores.{StoreView, IsLogBehind}
+use Rattle.rss_check.specs.Layouts.{IsLogBehind}
+use Rattle.rss_store.specs.Stores.{StoreView}
 
 -- ---- the pieces of the log
 

@@ -1,5 +1,5 @@
 -- A durable store as its callers see it, and what holds of it between two calls, whatever its device tells.
-use Rattle.std.specs.Prelude.{◌≡◌, ℕ, ◌+◌, ◌<◌, ◌≤◌, true, List, ◌++◌, length, drop}
+use Rattle.std.specs.Prelude.{◌≡◌, ℕ, ◌+◌, ◌<◌, true, length}
 use Rattle.rss_base.specs.DiskRule.{IsTold}
 use Rattle.rss_base.specs.Sizes.{system_pages}
 use Rattle.rss_base.specs.Layout.{IsWellFormed}
@@ -10,8 +10,9 @@ use Rattle.rss_base.specs.StoredPages.{mapped_by}
 use Rattle.rss_base.specs.declared.root.Root.{Root}
 use Rattle.rss_tuple.specs.Heaps.{AreHeaps}
 use Rattle.rss_catalog.specs.Catalogs.{CatalogView, HasSystemPages}
-use Rattle.rss_log.specs.Logs.{LogView, IsLog, bytes_from, piece_start}
+use Rattle.rss_log.specs.Logs.{LogView}
 use Rattle.rss_access.specs.Changes.{both, HasTables}
+use Rattle.rss_check.specs.Layouts.{IsLogBehind}
 
 -- pages: those with the tuples and the catalog.
 -- catalog: what is defined, with the counts of tuples.
@@ -23,18 +24,6 @@ pub record StoreView : Type 1 where
   pub log : LogView
   pub root : Root
   pub number : ℕ
-
--- the bytes that were appended to the log in memory since the root was written
-abbrev pub appended_since : Root → LogView → List ℕ
-appended_since root log = drop (length root.tail) (bytes_from log (piece_start root.end))
-
--- The log in memory is that of the root, with the bytes that were appended since.
-pub record IsLogBehind (root : Root) (log : LogView) : Type 0 where
-  pub is_log : IsLog log
-  pub pages : log.pages ≡ root.log_pages
-  pub head : log.head ≡ root.head
-  pub later : root.end ≤ log.end
-  pub bytes : bytes_from log (piece_start root.end) ≡ root.tail ++ appended_since root log
 
 -- A call may be made. On a device that tells its contents, the pages spell some tables.
 pub record IsReady (view : StoreView) : Type 0 where

@@ -4,7 +4,6 @@
 
 mod appending;
 mod changing;
-mod checking;
 mod committing;
 mod counting;
 mod formatting;
@@ -13,7 +12,6 @@ mod rooms;
 mod store;
 mod writing;
 
-pub use checking::{RELATIONS, look_through, pages_in};
 pub use formatting::format;
 pub use opening::open;
 pub use store::DurableStore;

@@ -1,96 +1,27 @@
 // The opening of a store.
-ghost use Rattle.std.specs.Prelude.{◌≡◌, ◌↔◌, ◌<◌, ◌≤◌, IsTrue, IfSome, IfNone, IfOk, IfErr, OnOk};
+ghost use Rattle.std.specs.Prelude.{◌≡◌, ◌↔◌, ◌<◌, ◌≤◌, IsTrue, IfSome, IfNone, IfOk, IfErr};
 ghost use Rattle.rss_base.specs.DiskRule.{Told, LeavesOnly};
-ghost use Rattle.rss_base.specs.Devices.{OnlyReads, ReadsStore};
-ghost use Rattle.rss_base.specs.Layout.{IsWellFormed, device_pages};
+ghost use Rattle.rss_base.specs.Devices.{OnlyReads};
+ghost use Rattle.rss_base.specs.Layout.{device_pages};
 ghost use Rattle.rss_base.specs.Steps.{device_below};
 ghost use Rattle.rss_base.specs.Answers.{open_error};
 ghost use Rattle.rss_buffer.specs.Devices.{device_of};
 ghost use Rattle.rss_stored.specs.LogLaws.{IsRested};
 ghost use Rattle.rss_stored.specs.Store.{Stored};
+ghost use Rattle.rss_check.specs.Layouts.{IsLayout, HasLayout, IsLogRead, HasLogBytes, position_most};
 ghost use Rattle.rss_store.specs.Stores.{IsReady, IsSaved};
-ghost use Rattle.rss_store.specs.Opening.{IsLayout, HasLayout, IsLogRead, HasLogBytes, position_most};
 ghost use Rattle.rss_store.specs.Opening.{RestsAt, NamesNone, IsReadFrom, Begins};
-ghost use Rattle.rss_store.specs.Opening.{IsUnopened, IsHandedBack, ReadsFrom, OpensStore, HasFrames};
+ghost use Rattle.rss_store.specs.Opening.{IsHandedBack, ReadsFrom, OpensStore, HasFrames};
 ghost use Rattle.rss_store.specs.Parts.{view, pages_of};
 
-use crate::{DurableStore, look_through, pages_in};
-use rss_base::{
-    Device, LogRecord, Marks, OpenFault, PageFault, Pages, Place, Root, Unopened, log_at,
-};
+use crate::DurableStore;
+use rss_base::{Device, LogRecord, Marks, OpenFault, PageFault, Pages, Place, Unopened};
 use rss_buffer::{Buffer, LEAST_FRAMES, MOST_FRAMES, Saving};
+use rss_check::{Layout, look_through, read_layout};
 use rss_log::Log;
-use rss_pagemap::{SlotTable, read_table};
 use rss_restart::restart;
-use rss_root::load;
 use rss_tuple::Store;
 use std::alloc::Global;
-
-/// A store whose log ends here or later isn't opened, so that the positions of a session stay
-/// numbers.
-const POSITION_MOST: u64 = 1 << 62;
-
-/// The selected root with its number, the map that it names, and its log.
-#[derive(Drop)]
-struct Layout {
-    root: Root,
-    number: u8,
-    table: SlotTable,
-    log: Log,
-}
-
-/// Reads the log of a root.
-fn read_log<D: Device>(alloc: Global, device: &mut D, root: &Root) -> Result<Log, OpenFault>
-    requires formed { IsWellFormed root.now }
-    requires size { (D.view device.old).size ≡ device_pages root.now }
-    ensures log { IfOk result (IsLogRead root.now) }
-    ensures bytes { IfOk result (λ log. Told (D.view device.old).disk (λ pages.
-        HasLogBytes pages root.now log)) }
-    ensures refused { IfErr result (IsUnopened (D.view device.old)) }
-    ensures size { (D.view device.new).size ≡ (D.view device.old).size }
-    ensures did { ReadsStore (D.view device.old) (D.view device.new) result }
-{
-    Log::load(
-        alloc,
-        device,
-        log_at(root.slots),
-        root.log_pages,
-        root.head,
-        root.end,
-        &root.tail,
-    )
-}
-
-/// Reads the layout of a store. If it is refused, the fault says why.
-fn read_layout<D: Device>(alloc: Global, device: &mut D) -> Result<Layout, OpenFault>
-    ensures layout { IfOk result (λ l. IsLayout l.root l.number l.table) }
-    ensures log { IfOk result (λ l. IsLogRead l.root l.log) }
-    ensures size { IfOk result (λ l. (D.view device.new).size ≡ device_pages l.root) }
-    ensures holds { IfOk result (λ l. Told (D.view device.old).disk (λ pages.
-        HasLayout pages l.root l.number l.table)) }
-    ensures bytes { IfOk result (λ l. Told (D.view device.old).disk (λ pages.
-        HasLogBytes pages l.root l.log)) }
-    ensures synced { OnOk result
-        (Told (D.view device.old).disk (LeavesOnly (D.view device.new).disk)) }
-    ensures refused { IfErr result (IsUnopened (D.view device.old)) }
-    ensures did { ReadsStore (D.view device.old) (D.view device.new) result }
-{
-    let (root, number) = load(device)?;
-    let table = read_table(alloc, device, &root)?;
-    if 2 * pages_in(&table) > root.slots {
-        return Err(OpenFault::Damaged(Place::Room));
-    }
-    if root.end >= POSITION_MOST {
-        return Err(OpenFault::NoMemory);
-    }
-    let log = read_log(alloc, device, &root)?;
-    Ok(Layout {
-        root,
-        number,
-        table,
-        log,
-    })
-}
 
 /// The store whose layout was read, with its pages in a buffer of so many frames, if they hold
 /// tables.

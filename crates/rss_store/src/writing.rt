@@ -7,9 +7,9 @@ ghost use Rattle.rss_base.specs.Sizes.{piece_bytes};
 ghost use Rattle.rss_buffer.specs.Saving.{SavingCall};
 ghost use Rattle.rss_buffer.specs.declared.stage.Stage.TheVariants.{Switched};
 ghost use Rattle.rss_log.specs.Logs.{IsLog, tail_of};
+ghost use Rattle.rss_check.specs.Layouts.{IsLogBehind};
 ghost use Rattle.rss_store.specs.Commits.{new_pieces};
 ghost use Rattle.rss_store.specs.Selecting.{HoldsPiecesWithin};
-ghost use Rattle.rss_store.specs.Stores.{IsLogBehind};
 
 use rss_base::{PAGE_BYTES, PIECE_BYTES, PageFault, Root, Tail, log_at};
 use rss_buffer::Saving;

@@ -9,8 +9,9 @@ use Rattle.rss_base.proofs.Flows.{takes_none}
 use Rattle.rss_base.proofs.Moments.{reads_none}
 use Rattle.rss_model.specs.Generator.{generated}
 use Rattle.rss_model.specs.Script.{joined}
+use Rattle.rss_check.proofs.Refused.{unopened_memory}
 use Rattle.rss_store.specs.Formatted.{AreSizes}
-use Rattle.rss_store.proofs.Unopened.{handed_back, unopened_memory}
+use Rattle.rss_store.proofs.Unopened.{handed_back}
 use Rattle.rss_words.specs.Words.{AreFormat, AskFor, IsCommand}
 use Rattle.rss_words.specs.declared.command.Command.{Command}
 use Rattle.rss_words.specs.declared.command.Command.TheVariants.{OnFile, Format, Generate, Trial}

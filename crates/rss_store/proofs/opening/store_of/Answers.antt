@@ -7,10 +7,11 @@ use Rattle.rss_buffer.specs.BufferLaws.{saveable_by, holds_by, counted_by}
 use Rattle.rss_buffer.specs.Devices.{device_of, buffer_view}
 use Rattle.rss_buffer.specs.Views.{pages_view}
 use Rattle.rss_buffer.proofs.SavingSteps.{fresh_unchanged}
-use Rattle.rss_store.specs.Looks.{FindsTables, FindsNone}
+use Rattle.rss_check.specs.Looks.{FindsTables, FindsNone}
+use Rattle.rss_check.proofs.Refused.{unopened_look, fault_device}
 use Rattle.rss_store.specs.Opening.{IsHandedBack, ReadsFrom}
 use Rattle.rss_store.proofs.Read.{lacks_tables, reads_from}
-use Rattle.rss_store.proofs.Unopened.{unopened_look, fault_device, handed_back}
+use Rattle.rss_store.proofs.Unopened.{handed_back}
 use Rattle.rss_store.proofs.opening.store_of.Goals as goal
 
 -- ---- they spell no tables

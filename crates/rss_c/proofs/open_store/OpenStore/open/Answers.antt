@@ -2,7 +2,7 @@ use Rattle.std.proofs.Common.{rules, ℕ, subst}
 use Rattle.std.specs.Prelude.{List, Result, Ok, Err, IfOk, IfErr}
 use Rattle.rss_device.specs.StepDevice.{view_of, IsFresh}
 use Rattle.rss_device.specs.declared.step_device.StepDevice.{StepDevice}
-use Rattle.rss_store.specs.Opening.{IsUnopened}
+use Rattle.rss_check.specs.Refused.{IsUnopened}
 use Rattle.rss_c.specs.Stores.{AreRefused, AreWhole, FailsFor, HasFailed, IsOpenedOn, IsOver, pages_in}
 use Rattle.rss_c.specs.declared.open_store.OpenStore.{OpenStore}
 use Rattle.rss_c.specs.declared.open_store.Refused.{Refused}
