@@ -1,14 +1,10 @@
--- Lists with as many members: a list that rises and has all members of another one, which rises too and is as long, is that one; and the same numbers, none of them twice, are as many.
+-- Members of lists; and the same numbers, none of them twice, are as many.
 use Rattle.std.proofs.Common.{◌≡◌, ◌≢◌, inl, inr, ℕ, zero, suc, ◌<◌, ◌≤◌, List, [], ◌∷◌, length, arith}
 use Rattle.std.specs.Prelude.{Contains, slice_index_or}
-use Rattle.rss_base.specs.Entries.{IsLess}
 use Rattle.rss_levels.specs.Entries.{IsIn, Pairwise}
 use Rattle.rss_levels.specs.Nested.{AreSameNumbers}
-use Rattle.rss_levels.proofs.Lists.{each_weaker}
-use Rattle.rss_base.proofs.Entries.{less_never, less_trans}
 use Rattle.rss_model.proofs.Mixing.{In}
-use Rattle.rss_entries.proofs.Orders.{Rise}
-use Rattle.rss_access.proofs.SortedAlike.{few_apart, same_sorted}
+use Rattle.rss_access.proofs.SortedAlike.{few_apart}
 
 pub contains_in : {X : Type 0} (xs : List X) (a : X) → Contains xs a → In a xs
 contains_in {X} xs a has = at xs has.0 has.1 has.2
@@ -17,15 +13,6 @@ contains_in {X} xs a has = at xs has.0 has.1 has.2
     at [] k low is = absurd (omega (arith, low))
     at (x ∷ xs) zero low is = inl is
     at (x ∷ xs) (suc k) low is = inr (at xs k (omega (arith, low)) is)
-
--- ---- lists that rise
-
-pub as_many : (xs ys : List (List ℕ)) → Rise xs → Rise ys → ((a : List ℕ) → In a xs → In a ys) → length xs ≡ length ys → xs ≡ ys
-as_many xs ys one other to long = same_sorted IsLess (λ a is. less_never is) xs ys one (none_back ys other) to (omega (arith, long))
-  where
-    none_back : (ps : List (List ℕ)) → Rise ps → Pairwise (λ a b. IsLess b a → ⊥) ps
-    none_back [] rises = tt
-    none_back (p ∷ ps) rises = (each_weaker (IsLess p) (λ b. IsLess b p → ⊥) ps (λ b less back. less_never (less_trans less back)) rises.0, none_back ps rises.1)
 
 -- ---- numbers
 

@@ -31,11 +31,12 @@ pub mod ImageGone
 pub mod Fronts
 mod NextTuples
 mod Walked
-mod AsMany
+pub mod AsMany
 mod Repeats
 mod NodesWithin
 pub mod NodesReached
 mod NodesMoved
+pub mod RowsHad
 mod Checked
 mod KeyRepeats
 mod SortedAlike

@@ -1,5 +1,5 @@
 -- A list that is sorted, and has no more members than one that rises, and all of its members, is that list. One that was sorted without ties rises.
-use Rattle.std.proofs.Common.{◌≡◌, ◌≢◌, ◌⊎◌, inl, inr, ⊎_elim, Bool, true, false, ℕ, zero, suc, ◌<◌, ◌≤◌, List, [], ◌∷◌, ◌++◌, length, get_or, refl, sym, ◌∙◌, ap, subst, arith, length-append}
+use Rattle.std.proofs.Common.{◌≡◌, ◌≢◌, ◌⊎◌, inl, inr, ⊎_elim, Bool, true, false, ℕ, zero, suc, ◌+◌, ◌<◌, ◌≤◌, List, [], ◌∷◌, ◌++◌, length, get_or, refl, sym, ◌∙◌, ap, subst, arith, length-append}
 use Rattle.std.specs.Cmp.{IsTotalOrder}
 use Rattle.std.specs.List.{AllByRecursion, IsDistinct}
 use Rattle.std.specs.List.Sorted.{IsPermutation, IsSortedBy}
@@ -26,18 +26,39 @@ module _ {X : Type 0} where
   split_in (x ∷ xs) a (inl here) = record { front = []; back = xs; is = ap (λ (y : X). y ∷ xs) here }
   split_in (x ∷ xs) a (inr more) = let rest = split_in xs a more in record { front = x ∷ rest.front; back = rest.back; is = ap (λ (l : List X). x ∷ l) rest.is }
 
+  -- what is another member stands beside the first
+  still : (x : X) (xs ys : List X) → Each (λ b. x ≢ b) xs → (cut : IsSplitAt ys x) (a : X) → In a xs → In a ys → In a (cut.front ++ cut.back)
+  still x xs ys apart cut a is there = at (in_parts cut.front (x ∷ cut.back) a (subst (In a) cut.is there))
+    where
+      at : In a cut.front ⊎ In a (x ∷ cut.back) → In a (cut.front ++ cut.back)
+      at (inl front) = in_left cut.front cut.back a front
+      at (inr (inl here)) = absurd (each_in (λ b. x ≢ b) xs apart a is here)
+      at (inr (inr back)) = in_right cut.front cut.back a back
+
+  one_less : (x : X) (ys : List X) (cut : IsSplitAt ys x) → length ys ≡ length (cut.front ++ cut.back) + 1
+  one_less x ys cut = omega (arith, ap (λ (l : List X). length l) cut.is, length-append cut.front (x ∷ cut.back), length-append cut.front cut.back)
+
   -- of lists whose members are apart none is longer than a list that has them all
   pub few_apart : (xs ys : List X) → Pairwise (λ a b. a ≢ b) xs → ((a : X) → In a xs → In a ys) → length xs ≤ length ys
   few_apart [] ys apart into = omega arith
   few_apart (x ∷ xs) ys apart into =
       let cut = split_in ys x (into x (inl refl)) in
-      let rest = few_apart xs (cut.front ++ cut.back) apart.1 (λ a is. still a is cut (in_parts cut.front (x ∷ cut.back) a (subst (In a) cut.is (into a (inr is))))) in
-      omega (arith, rest, ap (λ (l : List X). length l) cut.is, length-append cut.front (x ∷ cut.back), length-append cut.front cut.back)
+      let rest = few_apart xs (cut.front ++ cut.back) apart.1 (λ a is. still x xs ys apart.0 cut a is (into a (inr is))) in
+      omega (arith, rest, one_less x ys cut)
+
+  -- and a list that is no longer has no other members
+  pub all_apart : (xs ys : List X) → Pairwise (λ a b. a ≢ b) xs → ((a : X) → In a xs → In a ys) → length ys ≤ length xs → (a : X) → In a ys → In a xs
+  all_apart [] [] apart into few a is = absurd is
+  all_apart [] (y ∷ ys) apart into few a is = absurd (omega (arith, few))
+  all_apart (x ∷ xs) ys apart into few a is =
+      let cut = split_in ys x (into x (inl refl)) in
+      let rest : In a (cut.front ++ cut.back) → In a xs = λ there. all_apart xs (cut.front ++ cut.back) apart.1 (λ b among. still x xs ys apart.0 cut b among (into b (inr among))) (omega (arith, few, one_less x ys cut)) a there in
+      ahead x xs ys cut a rest (in_parts cut.front (x ∷ cut.back) a (subst (In a) cut.is is))
     where
-      still : (a : X) → In a xs → (cut : IsSplitAt ys x) → In a cut.front ⊎ In a (x ∷ cut.back) → In a (cut.front ++ cut.back)
-      still a is cut (inl front) = in_left cut.front cut.back a front
-      still a is cut (inr (inl here)) = absurd (each_in (λ b. x ≢ b) xs apart.0 a is here)
-      still a is cut (inr (inr back)) = in_right cut.front cut.back a back
+      ahead : (x : X) (xs ys : List X) (cut : IsSplitAt ys x) (a : X) → (In a (cut.front ++ cut.back) → In a xs) → In a cut.front ⊎ In a (x ∷ cut.back) → In a (x ∷ xs)
+      ahead x xs ys cut a rest (inl front) = inr (rest (in_left cut.front cut.back a front))
+      ahead x xs ys cut a rest (inr (inl here)) = inl here
+      ahead x xs ys cut a rest (inr (inr back)) = inr (rest (in_right cut.front cut.back a back))
 
   -- ---- a list that rises, and one that is sorted
 

@@ -1,5 +1,5 @@
 -- An image is checked against the tuples of its relation.
-use Rattle.std.specs.Prelude.{◌≡◌, ℕ, ◌<◌, ◌∷◌, true, List, length, All, Contains, Some, Result, IsErrOf}
+use Rattle.std.specs.Prelude.{◌≡◌, ℕ, ◌<◌, true, List, length, All, Contains, Result, IsErrOf}
 use Rattle.rss_base.specs.Nodes.{Node}
 use Rattle.rss_base.specs.Paged.{Held}
 use Rattle.rss_base.specs.Faults.{Rises}
@@ -7,27 +7,18 @@ use Rattle.rss_base.specs.Steps.{PagesView, PagesStep, no_page}
 use Rattle.rss_base.specs.declared.fault.PageFault.{PageFault}
 use Rattle.rss_base.specs.declared.fault.PageFault.TheVariants.{Device as DeviceFailed, NoMemory}
 use Rattle.rss_base.specs.Trees.{IsNodeAt}
-use Rattle.rss_base.specs.TupleTypes.{Spells, SpellsSome}
-use Rattle.rss_base.specs.Listings.{Listing, ListingFits}
+use Rattle.rss_base.specs.Listings.{ListingFits}
 use Rattle.rss_base.specs.declared.name.Name.{Name}
 use Rattle.rss_base.specs.declared.tid.Tid.{Tid}
-use Rattle.rss_base.specs.declared.value.Value.{Value}
 use Rattle.rss_base.specs.declared.image.ImageEntry.{ImageEntry}
 use Rattle.rss_base.specs.declared.relation.RelationEntry.{RelationEntry}
-use Rattle.rss_node.specs.Pairs.{pair_bytes}
-use Rattle.rss_image.specs.Images.{ImageTree}
-use Rattle.rss_image.specs.declared.image.Image.{Image}
 use Rattle.rss_tuple.specs.Directory.{bodies_of}
 use Rattle.rss_model.specs.Tables.{Tables}
 use Rattle.rss_model.specs.Fits.{IsLive, IsIdentifier}
 use Rattle.rss_stored.specs.Store.{Defines, AreCounts, IsListedImage, SpellsContents, SpellsImage, image_definition, nodes_of}
 use Rattle.rss_entries.specs.Images.{AreTuples}
-use Rattle.rss_entries.specs.Keyed.{key_with}
-use Rattle.rss_entries.specs.Moving.{KeyKinds}
 use Rattle.rss_entries.specs.Seeking.{AreSingle}
-use Rattle.rss_access.specs.Bodies.{HoldsBytes}
 use Rattle.rss_access.specs.Changes.{AccessView}
-use Rattle.rss_access.specs.Tuples.{body_at}
 
 -- ---- what a check answers
 
@@ -78,22 +69,3 @@ pub record LooksAt {T : Type 0} (old new : PagesView) (result : Result T PageFau
   pub step : PagesStep no_page most most old new
   pub failed : IsErrOf result DeviceFailed → Rises old.faults new.faults
   pub memory : IsErrOf result NoMemory → ⊥
-
--- ---- the entries of tuples
-
--- The bytes are those of values of these fields, and their key's pair is one of the image's.
-pub record HasEntry (key : KeyKinds) (tid : Tid) (bytes : List ℕ) (image : Image) (view : PagesView) : Type 0 where
-  pub spelled : SpellsSome key.fields bytes
-  pub there : (values : List Value) → Spells key.fields bytes values
-      → (pairs : List (List ℕ)) → ImageTree image view.held pairs
-      → Contains pairs (pair_bytes (key_with key values) tid)
-
--- where a tuple of the relation of this number has the identifier, its values stand behind its blocks, and the image has its entry
-abbrev pub HasEntryOf : Listing → KeyKinds → ℕ → Tid → Image → PagesView → Type 0
-HasEntryOf listing key number tid image view =
-    (rest : List ℕ) → body_at view image.segment tid ≡ Some (number ∷ rest)
-    → (bytes : List ℕ) × HoldsBytes listing number (number ∷ rest) bytes × HasEntry key tid bytes image view
-
--- it has the entries of all its tuples
-abbrev pub HasEntries : Listing → KeyKinds → ℕ → Image → PagesView → Type 0
-HasEntries listing key number image view = (tid : Tid) → HasEntryOf listing key number tid image view

@@ -9,5 +9,6 @@ pub mod Alterations
 pub mod Moved
 pub mod Imaging
 pub mod Checking
+pub mod Rows
 pub mod Filling
 pub mod Trees

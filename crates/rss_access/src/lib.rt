@@ -15,7 +15,7 @@ mod tuples;
 
 pub use applying::{apply, undo};
 pub use bodies::{made_into, made_of, spelled_in};
-pub use checking::check_image;
+pub use checking::{check_image, check_rows};
 pub use edit::TUPLES_MOST;
 pub use filling::{entries_of, repeated};
 pub use imaging::{find_owner, next_entry};

@@ -27,4 +27,5 @@ pub mod Fits
 pub mod Once
 pub mod Laid
 pub mod Standing
+pub mod Marked
 pub mod Kept

@@ -73,7 +73,7 @@ module _ (of : Nodes) (slots : ℕ) (cells : Cells) (first_page : has_page of.wi
   leaf_childless [] = tt
   leaf_childless (p ∷ pairs) = (refl, leaf_childless pairs)
 
-  fine_stack : (pairs : List (List ℕ)) (row : Row) (lower : List Row) → AreMade (has_slot of.width) (row ∷ lower) → AreMade (has_page of.width slots) (row ∷ lower) → IsStack (spells of) cells of.width pairs (row ∷ lower) → IsStack (IsFine of slots) cells of.width pairs (row ∷ lower)
+  pub fine_stack : (pairs : List (List ℕ)) (row : Row) (lower : List Row) → AreMade (has_slot of.width) (row ∷ lower) → AreMade (has_page of.width slots) (row ∷ lower) → IsStack (spells of) cells of.width pairs (row ∷ lower) → IsStack (IsFine of slots) cells of.width pairs (row ∷ lower)
   fine_stack pairs row [] one two stack = (
     record { held = fine_row 0 row no_page one.0 two.0 (λ is. subst (Each (λ e. e.child ≡ 0)) (sym stack.1.pairs_are) (leaf_childless pairs)) (λ inner. absurd (omega (arith, inner))) stack.0.held; few = stack.0.few },
     stack.1,

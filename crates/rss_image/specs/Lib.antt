@@ -7,4 +7,5 @@ pub mod Removed
 pub mod Emptied
 pub mod Fitting
 pub mod Checking
+pub mod Marks
 pub mod Agreement

@@ -10,11 +10,13 @@ ghost use Rattle.rss_node.specs.Nodes.{NodeView, AreNodes, IsNodeOf, Spells, ent
 ghost use Rattle.rss_image.specs.Trees.{HoldsNode};
 ghost use Rattle.rss_image.specs.Images.{nodes_of};
 ghost use Rattle.rss_image.specs.Fitting.{IsFit};
+ghost use Rattle.rss_image.specs.Marks.{IsMappedIn, MarksImage, MarksOnly, MarksUnder};
 ghost use Rattle.rss_image.specs.Checking.{AreSeen, IsSeen, IsCensus, HasSoundImage, SeesLeaf, NeverLeads, HoldsNone, NeverFits, FitsIn, HoldsFit, SeesIn, NeverIn, IsChildAt, NeverHasEntry, HasEntryAt, leaf_part, SeesUnder, NeverStands, repeated as is_repeated, with_seen, with_bound};
 
 use crate::fitting::{are_between, is_fit, keyed_at};
 use crate::halving::zeros;
 use crate::image::Image;
+use crate::marks::mark;
 use crate::store::{damaged, load_page, node_key};
 use rss_base::{Key, Page, PageFault, Pages, Tid, node_most};
 use rss_node::{LentNode, NO_PAGE, Nodes, Pair};
@@ -219,6 +221,7 @@ fn find_leaf<P: Pages>(
         → SeesUnder of (P.view pages.old) 0 number low.now fewest seen.old seen.new) }
     ensures never { IfOk result (λ fits. fits ≡ false → IsTold (P.view pages.old).disk
         → NeverStands of (P.view pages.old) 0 number low.now fewest seen.old) }
+    ensures mapped { IfOk result (λ fits. fits ≡ true → IsMappedIn of (P.view pages.old) number) }
     ensures did { PagesCall no_pages 1 1 (P.view pages.old) (P.view pages.new) result }
 {
     let slots = pages.slots();
@@ -261,6 +264,8 @@ fn find_count<P: Pages>(
         → HoldsFit of (P.view pages.old) level number fewest count)) }
     ensures none { IfOk result (λ found. found ≡ None → IsTold (P.view pages.old).disk
         → HoldsNone of (P.view pages.old) level number fewest) }
+    ensures mapped { IfOk result (λ found. IfSome found (λ count.
+        IsMappedIn of (P.view pages.old) number)) }
     ensures did { PagesCall no_pages 1 1 (P.view pages.old) (P.view pages.new) result }
 {
     let slots = pages.slots();
@@ -323,7 +328,7 @@ fn find_child<P: Pages>(
 }
 
 /// Sees what stands under a node of a level, from right to left, and answers whether it fits before
-/// what was seen.
+/// what was seen. The pages of nodes that fit are marked.
 fn check_under<P: Pages>(
     pages: &mut P,
     of: Nodes,
@@ -332,6 +337,7 @@ fn check_under<P: Pages>(
     low: &Pair,
     fewest: usize,
     seen: &mut Seen,
+    marks: &mut [u64],
 ) -> Result<bool, PageFault>
     requires of { AreNodes of }
     requires few { seen.old.pairs ≤ 512 * seen.old.pages }
@@ -340,6 +346,9 @@ fn check_under<P: Pages>(
         → SeesUnder of (P.view pages.old) level number low.now fewest seen.old seen.new) }
     ensures never { IfOk result (λ fits. fits ≡ false → IsTold (P.view pages.old).disk
         → NeverStands of (P.view pages.old) level number low.now fewest seen.old) }
+    ensures marked { IfOk result (λ fits. fits ≡ true → IsTold (P.view pages.old).disk
+        → MarksUnder of (P.view pages.old) level number marks.old marks.new) }
+    ensures reached { MarksOnly (IsMappedIn of (P.view pages.old)) marks.old marks.new }
     ensures did { (most : ℕ) × PagesCall no_pages most most
         (P.view pages.old) (P.view pages.new) result }
 {
@@ -347,12 +356,17 @@ fn check_under<P: Pages>(
         return Ok(false);
     }
     if level == 0 {
-        return find_leaf(pages, of, number, low, fewest, seen);
+        if !find_leaf(pages, of, number, low, fewest, seen)? {
+            return Ok(false);
+        }
+        mark(marks, number);
+        return Ok(true);
     }
     let Some(count) = find_count(pages, of, level, number, fewest)? else {
         return Ok(false);
     };
     seen.pages += 1;
+    mark(marks, number);
     let mut at = count;
     while at > 0 {
         at -= 1;
@@ -365,6 +379,7 @@ fn check_under<P: Pages>(
             &child.bound,
             node_most(of.width) / 2,
             seen,
+            marks,
         )?;
         if !fits {
             return Ok(false);
@@ -393,6 +408,30 @@ impl Image {
         ensures did { (most : ℕ) × PagesCall no_pages most most
             (P.view pages.old) (P.view pages.new) result }
     {
+        self.check_marking(pages, &mut [])
+    }
+
+    /// The same, and it marks the tree's pages, each by its number in the space of images. Numbers for
+    /// which there is no bit are passed over. If there is no tree, or on a fault, some pages may be
+    /// marked that are mapped.
+    pub fn check_marking<P: Pages>(
+        &self,
+        pages: &mut P,
+        marks: &mut [u64],
+    ) -> Result<Option<Census>, PageFault>
+        requires of { AreNodes (nodes_of self.now) }
+        ensures sound { IfOk result (λ found. IsTold (P.view pages.old).disk
+            → IfSome found (IsCensus self.now (P.view pages.old))) }
+        ensures none { IfOk result (λ found. found ≡ None → IsTold (P.view pages.old).disk
+            → HasSoundImage self.now (P.view pages.old) → ⊥) }
+        ensures marked { IfOk result (λ found. IfSome found (λ census.
+            IsTold (P.view pages.old).disk
+            → MarksImage self.now (P.view pages.old).held marks.old marks.new)) }
+        ensures reached { MarksOnly (IsMappedIn (nodes_of self.now) (P.view pages.old))
+            marks.old marks.new }
+        ensures did { (most : ℕ) × PagesCall no_pages most most
+            (P.view pages.old) (P.view pages.new) result }
+    {
         if self.levels == 0 {
             return Ok(None);
         }
@@ -412,6 +451,7 @@ impl Image {
             &low,
             fewest,
             &mut seen,
+            marks,
         )?;
         if !fits {
             return Ok(None);

@@ -10,6 +10,7 @@ mod halving;
 mod image;
 mod inserting;
 mod laws;
+mod marks;
 mod removing;
 mod rooting;
 mod seeking;
@@ -17,3 +18,4 @@ mod store;
 
 pub use checking::Census;
 pub use image::Image;
+pub use marks::is_marked;

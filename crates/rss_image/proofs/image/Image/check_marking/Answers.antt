@@ -4,10 +4,12 @@ use Rattle.rss_levels.specs.Entries.{zeros}
 use Rattle.rss_image.specs.Images.{nodes_of}
 use Rattle.rss_image.specs.Checking.{IsSeenUnder}
 use Rattle.rss_image.proofs.Laid.{census_is}
+use Rattle.rss_image.specs.Marks.{IsMappedIn}
+use Rattle.rss_image.proofs.Marked.{image_marked, only_none}
 use Rattle.rss_image.proofs.Numbered.{numbered}
 use Rattle.rss_image.proofs.Standing.{HasRoot, below_slots, stands_held, sound_stands}
 use Rattle.rss_image.proofs.Walked.{own_pages}
-use Rattle.rss_image.proofs.image.Image.check.Goals as goal
+use Rattle.rss_image.proofs.image.Image.check_marking.Goals as goal
 
 pub returns-then-not-fits-clause-none : goal.returns-then-not-fits-clause-none
 returns-then-not-fits-clause-none g c = λ is told has.
@@ -35,3 +37,11 @@ returns-clause-sound g c = λ told.
 
 pub returns-in_err-fits-clause-did : goal.returns-in_err-fits-clause-did
 returns-in_err-fits-clause-did g c = (c.in_err-fits.ensures.did.0, fails _ c.from_residual.ensures.1 (λ key there. there) (omega arith) (omega arith) c.in_err-fits.ensures.did.1)
+
+pub returns-clause-marked : goal.returns-clause-marked
+returns-clause-marked g c = λ told.
+    let is = returns-clause-sound g c told in
+    image_marked c.args.self.now (g.P.Pages.view c.args.pages.now) c.args.marks.now c.check_under.new.marks (record { pairs = is.pairs; tree = is.tree; within = is.within }) (c.in_ok-fits.ensures.marked c.if-not-fits.false told)
+
+pub returns-then-self-eq0-clause-reached : goal.returns-then-self-eq0-clause-reached
+returns-then-self-eq0-clause-reached g c = only_none (IsMappedIn (nodes_of c.args.self.now) (g.P.Pages.view c.args.pages.now)) c.args.marks.now
