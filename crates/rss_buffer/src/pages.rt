@@ -233,7 +233,7 @@ impl<D: Device> Pages for Buffer<D> {
     }
 
     fn loaded(&self, key: PageKey) -> &Page {
-        let Some((page, _)) = self.frames.get(key) else {
+        let Some((page, _)) = self.frames.peek(key) else {
             unreachable!()
         };
         page

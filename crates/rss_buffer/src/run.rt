@@ -64,7 +64,7 @@ fn changed_page<'f>(owners: &SlotTable, frames: &'f Frames, slot: u32) -> Option
         (IsWritten owners.now (frame_in frames.now) slot) }
 {
     let key = owners.owner(slot)?;
-    let (page, changed) = frames.get(key)?;
+    let (page, changed) = frames.peek(key)?;
     if !changed {
         return None;
     }

@@ -122,6 +122,22 @@ entry_eldest (x ∷ y ∷ es) e apart is =
       | inr off ↦ rw off there
     ]
 
+-- and it is the last of all
+pub others_eldest : (es : List Held) (e : Held) → AreDistinct es → eldest es ≡ Some e → es ≡ others e.key es ++ e ∷ []
+unfolding others eldest AreDistinct
+others_eldest [] e apart is = absurd (cc)
+others_eldest (x ∷ []) e apart is =
+    let found : x ≡ e = same_Some x e is in
+    subst (λ (h : Held). x ∷ [] ≡ others h.key (x ∷ []) ++ h ∷ []) found (rw (is_same-itself x.key) refl)
+others_eldest (x ∷ y ∷ es) e apart is =
+    let there = entry_eldest (y ∷ es) e apart.1 is in
+    elim (cases_Bool (is_same x.key e.key)) [
+      | inl same ↦
+          let never : None ≡ Some e = sym apart.0 ∙ ap (λ (k : PageKey). entry k (y ∷ es)) (is_same-true x.key e.key same) ∙ there in
+          absurd (cc)
+      | inr off ↦ rw off (ap (λ (l : List Held). x ∷ l) (others_eldest (y ∷ es) e apart.1 is))
+    ]
+
 pub none_eldest : (es : List Held) → eldest es ≡ None → es ≡ []
 unfolding eldest
 none_eldest [] is = refl

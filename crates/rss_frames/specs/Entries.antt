@@ -48,6 +48,10 @@ IsEntry key bytes changed es = entry key es ≡ Some (record { key = key; bytes 
 abbrev pub bytes_of : Option Held → Option (List ℕ)
 bytes_of = option_map (λ e. e.bytes)
 
+-- a page that isn't there comes before all others, with these bytes and this mark
+abbrev pub admitted : PageKey → List ℕ → Bool → List Held → List Held
+admitted key bytes changed es = record { key = key; bytes = bytes; changed = changed } ∷ es
+
 -- the page's entry goes before all others
 abbrev pub fronted : PageKey → List Held → List Held
 fronted key es = option_to_list (entry key es) ++ others key es

@@ -1,5 +1,5 @@
 -- The frames of pages, whatever their order.
-use Rattle.std.specs.Prelude.{◌≡◌, ℕ, ◌+◌, ◌<◌, Bool, false, List, ◌∷◌, length, slice_range, slice_set, Option, Some, option_map}
+use Rattle.std.specs.Prelude.{◌≡◌, ℕ, ◌+◌, ◌<◌, Bool, false, List, [], ◌∷◌, ◌++◌, length, slice_range, slice_set, Option, Some, option_map}
 use Rattle.rss_base.specs.DiskRule.{Disk, Told, page}
 use Rattle.rss_base.specs.Steps.{with_bytes}
 use Rattle.rss_base.specs.declared.key.PageKey.{PageKey}
@@ -43,6 +43,15 @@ pub record Admits (key : PageKey) (frame : ℕ) (changed : Bool) (old new : Stat
     pages = old.pages;
     marks = slice_set old.marks frame changed;
   }
+
+-- the page is out that wasn't used for the longest time, and these were its bytes and its mark
+abbrev pub Evicts : PageKey → List ℕ → Bool → State → State → Type 0
+Evicts key bytes changed old new = entries old ≡ entries new ++ record { key = key; bytes = bytes; changed = changed } ∷ []
+
+-- no page was there, and none is
+pub record IsEmptied (old new : State) : Type 0 where
+  pub before : entries old ≡ []
+  pub after : entries new ≡ []
 
 -- the page is the one that was used last, unchanged, with what the device holds there where it tells it
 pub record ReadsIn (key : PageKey) (at : ℕ) (disk : Disk) (old new : State) : Type 0 where

@@ -8,3 +8,4 @@ pub mod Entries
 pub mod Invariant
 pub mod Pairs
 pub mod Frames
+pub mod Lends

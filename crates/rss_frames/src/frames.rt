@@ -1,6 +1,8 @@
 // Pages in memory.
 ghost use Rattle.std.specs.Prelude.{◌≡◌, ◌≢◌, ◌⊎◌, ◌↔◌, ◌+◌, ◌<◌, ◌≤◌, [], length, Some, None};
-ghost use Rattle.std.specs.Prelude.{is_some, option_map, IsTrue, IsSome, IfSome, IfNone, IfOk, OnOk, OnErr};
+ghost use Rattle.std.specs.Prelude.{is_some, option_map, option_copied, IsTrue, IsSome, IfSome, IfNone, IfOk, OnOk, OnErr};
+ghost use Rattle.std.specs.Borrow.{sem};
+ghost use Rattle.std.specs.Option.{option_copied_mut};
 ghost use Rattle.rss_base.specs.Devices.{ReadsPages};
 ghost use Rattle.rss_base.specs.Sizes.{page_bytes};
 ghost use Rattle.rss_frames.specs.Table.{IsFound, IsAbsent};
@@ -61,8 +63,9 @@ fn all_free(alloc: Global, count: u32) -> Result<Order, AllocError>
 }
 
 impl Frames {
-    ghost use Rattle.rss_frames.specs.Entries.{Shows, AreDistinct, entries, room, fronted, written, others, settled, eldest, name_of};
-    ghost use Rattle.rss_frames.specs.Frames.{frame_in, HasRoom, Admits, ReadsIn, CopiesFrame};
+    ghost use Rattle.rss_frames.specs.Entries.{Shows, AreDistinct, admitted, bytes_of, entries, entry, room, fronted, written, others, settled, eldest, name_of};
+    ghost use Rattle.rss_frames.specs.Frames.{frame_in, HasRoom, Admits, Evicts, IsEmptied, ReadsIn, CopiesFrame};
+    ghost use Rattle.rss_frames.specs.Lends.{EndsUsed, LendsPage};
 
     /// So many frames with no page. Nothing else here takes memory.
     pub fn new(alloc: Global, frames: u32) -> Result<Frames, AllocError>
@@ -93,8 +96,37 @@ impl Frames {
         self.table.find(key).is_some()
     }
 
+    /// How many pages are in memory.
+    pub fn len(&self) -> u32
+        ensures { result ≡ length (entries self.now) }
+    {
+        self.used.len()
+    }
+
+    /// A page, if it is in memory. It becomes the one that was used last.
+    pub fn get(&mut self, key: PageKey) -> Option<&Page>
+        ensures* used { sem 𝓛 (EndsUsed self.entry key) }
+        ensures value { option_copied result ≡ bytes_of (entry key (entries self.old)) }
+    {
+        let frame = self.table.find(key)?;
+        self.used.to_front(frame);
+        Some(&self.pages[frame as usize])
+    }
+
+    /// A page, if it is in memory, to be written. It is marked as changed, and becomes the one that
+    /// was used last.
+    pub fn get_mut(&mut self, key: PageKey) -> Option<&mut Page>
+        ensures* writes_back { sem 𝓛 (LendsPage self.entry key result) }
+        ensures value { option_copied_mut result ≡ bytes_of (entry key (entries self.old)) }
+    {
+        let frame = self.table.find(key)?;
+        self.used.to_front(frame);
+        self.changed[frame as usize] = true;
+        Some(&mut self.pages[frame as usize])
+    }
+
     /// A page, if it is in memory, and whether it was changed. This is no use of it.
-    pub fn get(&self, key: PageKey) -> Option<(&Page, bool)>
+    pub fn peek(&self, key: PageKey) -> Option<(&Page, bool)>
         ensures some { IfSome result (λ r.
             frame_in self.now key ≡ Some (record { page = r.0.now; changed = r.1 })) }
         ensures none { IfNone result (frame_in self.now key ≡ None) }
@@ -127,7 +159,17 @@ impl Frames {
             self.pages[own as usize] = *page;
             return;
         }
-        let frame = self.admit(key, true);
+        self.admit(key, page, true);
+    }
+
+    /// Puts a page that isn't in memory into a free frame, with this mark. It becomes the one that
+    /// was used last.
+    pub fn admit(&mut self, key: PageKey, page: &Page, changed: bool)
+        requires room { HasRoom self.old }
+        requires absent { frame_in self.old key ≡ None }
+        ensures { Shows self.new (admitted key page.now changed (entries self.old)) (room self.old) }
+    {
+        let frame = self.give_frame(key, changed);
         self.pages[frame as usize] = *page;
     }
 
@@ -147,7 +189,7 @@ impl Frames {
         ensures room { room self.new ≡ room self.old }
         ensures did { ReadsPages (D.view device.old) (D.view device.new) result }
     {
-        let frame = self.admit(key, false);
+        let frame = self.give_frame(key, false);
         let result = device.read(at, &mut self.pages[frame as usize]);
         if result.is_err() {
             self.remove(key);
@@ -183,6 +225,22 @@ impl Frames {
         Some((key, self.changed[frame as usize]))
     }
 
+    /// Takes the page out of memory that wasn't used for the longest time, and copies its bytes.
+    /// Answers which it is and whether it was changed.
+    pub fn evict_last(&mut self, into: &mut Page) -> Option<(PageKey, bool)>
+        ensures some { IfSome result (λ r. Evicts r.0 into.new r.1 self.old self.new) }
+        ensures none { IfNone result (IsEmptied self.old self.new) }
+        ensures kept { IfNone result (into.new ≡ into.old) }
+        ensures room { room self.new ≡ room self.old }
+    {
+        let frame = self.used.last()?;
+        let key = self.table.key(frame)?;
+        let changed = self.changed[frame as usize];
+        *into = self.pages[frame as usize];
+        self.remove(key);
+        Some((key, changed))
+    }
+
     /// Takes a page out of memory, if it is there.
     pub fn remove(&mut self, key: PageKey)
         ensures gone { Shows self.new (others key (entries self.old)) (room self.old) }
@@ -206,7 +264,7 @@ impl Frames {
 
     /// Gives a page that isn't in memory a free frame. What its bytes are is any. The page becomes
     /// the one that was used last.
-    fn admit(&mut self, key: PageKey, changed: bool) -> u32
+    fn give_frame(&mut self, key: PageKey, changed: bool) -> u32
         requires room { HasRoom self.old }
         requires absent { frame_in self.old key ≡ None }
         ensures { Admits key result changed self.old self.new }

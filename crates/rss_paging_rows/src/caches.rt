@@ -124,6 +124,60 @@ impl Cache for Frames {
     }
 }
 
+/// Frames, by the calls that lend a page, or take the last one out.
+#[derive(Drop)]
+struct Lending {
+    frames: Frames,
+}
+
+impl Cache for Lending {
+    fn try_admit(&mut self, number: u32) -> Result<(), Fail> {
+        let key = key_of(number);
+        let None = self.frames.peek(key) else {
+            return Err("a page that is there".into());
+        };
+        if self.frames.is_full() {
+            return Err("no frame is free".into());
+        }
+        self.frames.admit(key, &[0; 4096], false);
+        Ok(())
+    }
+
+    fn is_used(&mut self, number: u32) -> bool {
+        self.frames.get(key_of(number)).is_some()
+    }
+
+    fn is_written(&mut self, number: u32) -> bool {
+        match self.frames.get_mut(key_of(number)) {
+            Some(page) => {
+                page[0] = 1;
+                true
+            }
+            None => false,
+        }
+    }
+
+    fn settle_page(&mut self, number: u32) {
+        self.frames.settle(key_of(number));
+    }
+
+    fn is_at_most(&self) -> bool {
+        self.frames.len() == FRAMES
+    }
+
+    fn leave(&mut self) -> Option<(u32, bool)> {
+        let (number, changed, _) = leave_whole(&mut self.frames)?;
+        Some((number, changed))
+    }
+}
+
+/// The page that leaves, whether it was changed, and its first byte.
+fn leave_whole(frames: &mut Frames) -> Option<(u32, bool, u8)> {
+    let mut page = [9; 4096];
+    let (key, changed) = frames.evict_last(&mut page)?;
+    Some((key.number, changed, page[0]))
+}
+
 /// The pages in memory, with whether each was changed.
 type Marks = LruCache<PageKey, bool>;
 
@@ -167,6 +221,12 @@ impl Cache for Marks {
         let (key, changed) = self.pop_lru()?;
         Some((key.number, changed))
     }
+}
+
+fn lending_frames(alloc: Global) -> Result<Lending, Fail> {
+    Ok(Lending {
+        frames: Frames::new(alloc, FRAMES)?,
+    })
 }
 
 fn marks(alloc: Global) -> Result<Marks, Fail> {
@@ -227,12 +287,12 @@ fn use_page<C: Cache>(cache: &mut C, number: u32, way: u32) -> Result<Option<(u3
 }
 
 /// The same pages leave both, in the same order.
-fn assert_alike(frames: &mut Frames, marks: &mut Marks) -> Result<(), Fail> {
+fn assert_alike<C: Cache>(cache: &mut C, marks: &mut Marks) -> Result<(), Fail> {
     let mut draws = Draws::new(35);
     for turn in 0..USES {
         let number = draws.below(PAGES);
         let way = draws.below(4);
-        let left = use_page(frames, number, way)?;
+        let left = use_page(cache, number, way)?;
         let want = use_page(marks, number, way)?;
         assert_same(&left, &want, turn)?;
     }
@@ -243,6 +303,8 @@ fn assert_alike(frames: &mut Frames, marks: &mut Marks) -> Result<(), Fail> {
 fn the_page_that_was_not_used_for_the_longest_time_leaves(rt: HostRuntime) -> Result<(), Fail> {
     let mut frames = Frames::new(rt.alloc(), FRAMES)?;
     assert_acts(&mut frames)?;
+    let mut lending = lending_frames(rt.alloc())?;
+    assert_acts(&mut lending)?;
     let mut marks = marks(rt.alloc())?;
     assert_acts(&mut marks)
 }
@@ -252,4 +314,11 @@ fn the_same_pages_leave_as_of_a_map_by_recency(rt: HostRuntime) -> Result<(), Fa
     let mut frames = Frames::new(rt.alloc(), FRAMES)?;
     let mut marks = marks(rt.alloc())?;
     assert_alike(&mut frames, &mut marks)
+}
+
+#[test]
+fn the_same_pages_leave_by_the_calls_that_lend(rt: HostRuntime) -> Result<(), Fail> {
+    let mut lending = lending_frames(rt.alloc())?;
+    let mut marks = marks(rt.alloc())?;
+    assert_alike(&mut lending, &mut marks)
 }

@@ -1,13 +1,14 @@
-use Rattle.std.proofs.Common.{inl, inr, true, ◌∷◌, set, sym, ap, subst}
+use Rattle.std.proofs.Common.{◌≡◌, inl, inr, true, List, ◌∷◌, set, sym, ◌∙◌, ap, subst}
 use Rattle.std.specs.Prelude.{IsSome, option_map}
 use Rattle.std.proofs.lemmas.List.{length-set}
 use Rattle.rss_frames.specs.Lists.{without}
+use Rattle.rss_frames.specs.Entries.{Held, changed_to, entries, others}
 use Rattle.rss_frames.specs.State.{State}
-use Rattle.rss_frames.specs.Frames.{frame_of, frame_in, Admits}
+use Rattle.rss_frames.specs.Frames.{frame_of, frame_in}
 use Rattle.rss_frames.specs.contracts.frames.Frames.{the_view}
 use Rattle.rss_frames.proofs.Entries.{absent_entry, absent_others, there_from_entry}
 use Rattle.rss_frames.proofs.Changes.{front, rewritten}
-use Rattle.rss_frames.proofs.Shown.{shown_written, shown_admitted}
+use Rattle.rss_frames.proofs.Shown.{shown_written}
 use Rattle.rss_frames.proofs.frames.Frames.put.Goals as goal
 
 -- ---- it is in memory
@@ -25,18 +26,19 @@ returns-in-Some c = rw (← c.self.view_is, c.to_front.ensures) (shown_written (
 
 -- ---- it isn't
 
-pub admit-frame-requires-clause-room : goal.admit-frame-requires-clause-room
-admit-frame-requires-clause-room c = elim c.requires [
+pub admit-requires-clause-room : goal.admit-requires-clause-room
+admit-requires-clause-room c = elim c.requires [
   | inl room ↦ room
   | inr there ↦ absurd (there_from_entry (the_view c.self.inside) _ _ c.self.invariant c.args.key (subst (λ (s : State). IsSome (frame_in s c.args.key)) (sym c.self.view_is) there) c.in_default.ensures)
 ]
 
-pub admit-frame-requires-clause-absent : goal.admit-frame-requires-clause-absent
-admit-frame-requires-clause-absent c = rw (← c.self.view_is) (ap (option_map frame_of) (absent_entry (the_view c.self.inside) _ _ c.self.invariant c.args.key c.in_default.ensures))
+pub admit-requires-clause-absent : goal.admit-requires-clause-absent
+admit-requires-clause-absent c = rw (← c.self.view_is) (ap (option_map frame_of) (absent_entry (the_view c.self.inside) _ _ c.self.invariant c.args.key c.in_default.ensures))
 
 pub returns : goal.returns
 returns c =
-    let s = the_view c.self.inside in
-    let new = the_view c.self-2.inside in
-    let admits : Admits c.args.key c.admit-frame.result true s new = rw (c.self.view_is, c.self-2.view_is) c.admit-frame.ensures in
-    rw (← c.self.view_is) (rw (absent_others s _ _ c.self.invariant c.args.key c.in_default.ensures) (shown_admitted s new _ _ c.self-2.invariant c.args.key c.admit-frame.result true admits c.args.page.now))
+    let others_are = subst (λ (s : State). others c.args.key (entries s) ≡ entries s) c.self.view_is (absent_others (the_view c.self.inside) _ _ c.self.invariant c.args.key c.in_default.ensures) in
+    record {
+      are = c.admit.ensures.are ∙ ap (λ (es : List Held). changed_to c.args.key c.args.page.now ∷ es) (sym others_are);
+      room_is = c.admit.ensures.room_is;
+    }
