@@ -133,9 +133,9 @@ struct Lending {
 impl Cache for Lending {
     fn try_admit(&mut self, number: u32) -> Result<(), Fail> {
         let key = key_of(number);
-        let None = self.frames.peek(key) else {
+        if self.frames.has(key) {
             return Err("a page that is there".into());
-        };
+        }
         if self.frames.is_full() {
             return Err("no frame is free".into());
         }
