@@ -49,9 +49,9 @@ module _ (s : State) (r : ℕ) (free : Recency) (k : IsFrames s r free) where
   used_off_free i f h = let o = k.used_has i h in let never : None ≡ Some o.0 = sym (k.free_none i f) ∙ o.1 in cc
 
   -- a page comes into a free frame
-  pub admitted : (left : List ℕ) (left_room i : ℕ) (key : PageKey) (mark : Bool) → free.frames ≡ left ++ i ∷ [] → left_room ≡ free.room → (Has i left → ⊥) → Has i free.frames → ((j : ℕ) → Has j left → Has j free.frames) → IsAbsent s.keys key → i < length s.keys
-      → IsFrames (record { keys = set s.keys i (Some key); used = i ∷ s.used; pages = s.pages; marks = set s.marks i mark }) r (record { frames = left; room = left_room })
-  admitted left left_room i key mark cut same_room gone in_free among absent within =
+  pub admitted : (left : Recency) (i : ℕ) (key : PageKey) (mark : Bool) → free.frames ≡ left.frames ++ i ∷ [] → left.room ≡ free.room → (Has i left.frames → ⊥) → Has i free.frames → ((j : ℕ) → Has j left.frames → Has j free.frames) → IsAbsent s.keys key → i < length s.keys
+      → IsFrames (record { keys = set s.keys i (Some key); used = i ∷ s.used; pages = s.pages; marks = set s.marks i mark }) r left
+  admitted left i key mark cut same_room gone in_free among absent within =
       let keys' = set s.keys i (Some key) in
       let put : key_at keys' i ≡ Some key = get_or-set_same s.keys i (Some key) None within in
       let kept : (j : ℕ) → j ≢ i → key_at keys' j ≡ key_at s.keys j = λ j off. get_or-set_other s.keys i j (Some key) None off in
@@ -67,8 +67,8 @@ module _ (s : State) (r : ℕ) (free : Recency) (k : IsFrames s r free) where
           | inr on ↦ let o = k.used_has j on in (o.0, kept j (λ e. off_used (subst (λ x. Has x s.used) e on)) ∙ o.1)
         ];
         has_used = λ j key' e. elim (cases_eq j i) [ inl same ↦ inl same | inr off ↦ inr (k.has_used j key' (sym (kept j off) ∙ e)) ];
-        free_none = λ j g. kept j (λ e. gone (subst (λ x. Has x left) e g)) ∙ k.free_none j (among j g);
-        count = simp length-set (omega (arith, k.count, ap length cut, length-append left (i ∷ [])));
+        free_none = λ j g. kept j (λ e. gone (subst (λ x. Has x left.frames) e g)) ∙ k.free_none j (among j g);
+        count = simp length-set (omega (arith, k.count, ap length cut, length-append left.frames (i ∷ [])));
         apart = (off_used, k.apart);
         sole = λ a b key' ea eb. elim (cases_eq a i) [
           | inl sa ↦ elim (cases_eq b i) [
@@ -87,7 +87,7 @@ module _ (s : State) (r : ℕ) (free : Recency) (k : IsFrames s r free) where
       }
 
   -- a page leaves its frame
-  pub removed : (i : ℕ) (key : PageKey) → key_at s.keys i ≡ Some key → IsFrames (record { keys = set s.keys i None; used = without i s.used; pages = s.pages; marks = s.marks }) r (record { frames = i ∷ free.frames; room = free.room })
+  pub removed : (i : ℕ) (key : PageKey) → key_at s.keys i ≡ Some key → IsFrames (record { keys = set s.keys i None; used = without i s.used; pages = s.pages; marks = s.marks }) r (record free { frames = i ∷ free.frames })
   removed i key at =
       let keys' = set s.keys i None in
       let within = frame_within s.keys i key at in
@@ -112,15 +112,14 @@ key_none : (keys : List (Option PageKey)) (i : ℕ) → ((i : ℕ) (key : PageKe
 key_none keys i none = (elim (key_at keys i) as (λ o. key_at keys i ≡ o → o ≡ None) [ None ↦ λ e. refl | Some key ↦ λ e. absurd (none i key e) ]) refl
 
 -- no frame has a page as yet
-pub fresh : (keys : List (Option PageKey)) (used free : Recency) (pages : List (List ℕ)) (marks : List Bool) (n : ℕ) → 0 < n → keys ≡ replicate n None → used ≡ record { frames = []; room = n } → free.room ≡ n → length free.frames ≡ n → length pages ≡ n → length marks ≡ n
+pub fresh : (keys : List (Option PageKey)) (used free : Recency) (pages : List (List ℕ)) (marks : List Bool) (n : ℕ) → 0 < n → keys ≡ replicate n None → used.frames ≡ [] → used.room ≡ n → free.room ≡ n → length free.frames ≡ n → length pages ≡ n → length marks ≡ n
     → IsFrames (record { keys = keys; used = used.frames; pages = pages; marks = marks }) used.room free
-fresh keys used free pages marks n is_some ke ue fr fl pl ml =
+fresh keys used free pages marks n is_some ke clear ur fr fl pl ml =
     let len : length keys ≡ n = ap length ke ∙ length-replicate n None in
     let none : (i : ℕ) (key : PageKey) → key_at keys i ≡ Some key → ⊥ = λ i key e. none_at n i key (ap (λ (ks : List (Option PageKey)). key_at ks i) (sym ke) ∙ e) in
-    let clear : used.frames ≡ [] = ap (λ (u : Recency). u.frames) ue in
     record {
       some = omega (arith, len, is_some);
-      room = ap (λ (u : Recency). u.room) ue ∙ sym len;
+      room = ur ∙ sym len;
       free_room = fr ∙ sym len;
       pages_len = pl ∙ sym len;
       marks_len = ml ∙ sym len;

@@ -1,11 +1,16 @@
 pub mod Lists
 pub mod Links
 pub mod Recency
+pub mod Keyed
 pub mod Table
 pub mod Chains
 pub mod State
 pub mod Entries
 pub mod Invariant
 pub mod Pairs
+pub mod Places
 pub mod Frames
 pub mod Lends
+pub mod Block
+pub mod Seated
+pub mod Filled

@@ -1,5 +1,5 @@
 // Pages in memory.
-ghost use Rattle.std.specs.Prelude.{◌≡◌, ◌≢◌, ◌⊎◌, ◌↔◌, ◌+◌, ◌<◌, ◌≤◌, [], length, Some, None};
+ghost use Rattle.std.specs.Prelude.{◌≡◌, ◌≢◌, ◌⊎◌, ◌↔◌, ℕ, ◌+◌, ◌*◌, ◌^◌, ◌<◌, ◌≤◌, List, [], length, Some, None};
 ghost use Rattle.std.specs.Prelude.{is_some, option_map, option_copied, IsTrue, IsSome, IfSome, IfNone, IfOk, OnOk, OnErr};
 ghost use Rattle.std.specs.Borrow.{sem};
 ghost use Rattle.std.specs.Option.{option_copied_mut};
@@ -7,16 +7,20 @@ ghost use Rattle.rss_base.specs.Devices.{ReadsPages};
 ghost use Rattle.rss_base.specs.Sizes.{page_bytes};
 ghost use Rattle.rss_frames.specs.Table.{IsFound, IsAbsent};
 ghost use Rattle.rss_frames.specs.Lists.{Has};
+ghost use Rattle.rss_frames.specs.Seated.{order_units, past, units_of};
 
-use crate::key_table::KeyTable;
+use crate::block::{Lease, Part, Seat};
+use crate::key_table::{KEY_BYTES, KeyTable, mask_for};
 use crate::pairs::{TwoPages, pair};
+use crate::parts::{claim, give, give_back};
 use crate::recency::Order;
+use crate::rows::{row_of, row_units};
 use rss_base::{Device, Failed, PAGE_BYTES, Page, PageKey, copy_bytes};
 use std::alloc::{AllocError, Global};
 use std::marker::Model;
+use std_alloc::vec::Lodged;
 
-/// So many frames, each of which may hold a page.
-#[derive(Drop)]
+/// So many frames, each of which may hold a page. All of it lies in one block of memory.
 pub struct Frames {
     /// The frame of each page that is in memory.
     table: KeyTable,
@@ -24,25 +28,59 @@ pub struct Frames {
     used: Order,
     /// The frames that have none.
     free: Order,
-    pages: Vec<Page>,
-    changed: Vec<bool>,
+    pages: Vec<Page, Lodged>,
+    pages_seat: Seat<Page>,
+    changed: Vec<bool, Lodged>,
+    changed_seat: Seat<bool>,
+    /// The units that no row took.
+    rest: Part,
+    lease: Lease<Global>,
+    alloc: Global,
 }
 
 impl Model for Frames {
     ghost use Rattle.rss_frames.specs.State.{State};
     ghost use Rattle.rss_frames.specs.Invariant.{IsFrames};
+    ghost use Rattle.rss_frames.specs.Filled.{FillsBlock};
+    ghost use Rattle.rss_frames.specs.Seated.{AreSeated};
 
     ghost Value = { State };
 
-    ghost view = { λ f. record { keys = f.table; used = f.used.frames; pages = f.pages.items; marks = f.changed.items } };
+    ghost view = { λ f. record { keys = f.table.keys; used = f.used.frames; pages = f.pages.items; marks = f.changed.items } };
 
-    ghost invariant = { λ f. IsFrames (record { keys = f.table; used = f.used.frames; pages = f.pages.items; marks = f.changed.items }) f.used.room f.free };
+    ghost invariant = { λ f.
+        IsFrames (record { keys = f.table.keys; used = f.used.frames; pages = f.pages.items; marks = f.changed.items }) f.used.room f.free
+        × AreSeated f.pages f.pages_seat f.changed f.changed_seat
+        × FillsBlock (f.table.start, f.table.units) (f.used.start, f.used.units) (f.free.start, f.free.units) f.pages_seat f.changed_seat f.rest f.lease f.alloc };
+}
+
+impl Drop for Frames {
+    fn drop(self) {
+        let Frames {
+            table,
+            used,
+            free,
+            pages,
+            pages_seat,
+            changed,
+            changed_seat,
+            rest,
+            lease,
+            alloc,
+        } = self;
+        let from_marks = give(changed, changed_seat, rest);
+        let from_pages = give(pages, pages_seat, from_marks);
+        let from_free = free.into_part(from_pages);
+        let from_used = used.into_part(from_free);
+        let block = table.into_part(from_used);
+        give_back(&alloc, block, lease);
+    }
 }
 
 /// The frame of a page that is in memory.
 fn place(table: &KeyTable, key: PageKey) -> u32
-    requires { IsAbsent table.now key → ⊥ }
-    ensures { IsFound table.now key result }
+    requires { IsAbsent table.now.keys key → ⊥ }
+    ensures { IsFound table.now.keys key result }
 {
     match table.find(key) {
         Some(frame) => frame,
@@ -50,35 +88,82 @@ fn place(table: &KeyTable, key: PageKey) -> u32
     }
 }
 
-/// So many frames, each of them free.
-fn all_free(alloc: Global, count: u32) -> Result<Order, AllocError>
-    ensures room { IfOk result (λ order. order.room ≡ count) }
-    ensures all { IfOk result (λ order. length order.frames ≡ count) }
+/// So many frames, each of them free, at the beginning of a part. Answers the rest.
+fn all_free(part: Part, count: u32) -> (Order, Part)
+    requires within { order_units count ≤ part.len }
+    requires small { part.len * 16 < 2 ^ 63 }
+    ensures room { result.0.room ≡ count }
+    ensures all { length result.0.frames ≡ count }
+    ensures at { result.0.start ≡ part.ptr }
+    ensures units { result.0.units ≡ order_units count }
+    ensures rest { result.1.ptr ≡ past part.ptr (order_units count) }
+    ensures len { result.1.len + order_units count ≡ part.len }
 {
-    let mut free = Order::new(alloc, count)?;
+    let (mut free, rest) = Order::new(part, count);
     for frame in 0..count {
         free.push_front(frame);
     }
-    Ok(free)
+    (free, rest)
+}
+
+/// How many units all rows of so many frames take.
+fn all_units(frames: usize, mask: usize) -> usize
+    requires frames { frames < 2 ^ 32 }
+    requires mask { mask < 2 ^ 32 }
+    ensures value { result ≡ units_of frames mask }
+    ensures small { result * 16 < 2 ^ 63 }
+{
+    row_units(frames, KEY_BYTES)
+        + row_units(frames + mask + 1, 4)
+        + 4 * row_units(frames + 1, 4)
+        + row_units(frames, PAGE_BYTES)
+        + row_units(frames, 1)
 }
 
 impl Frames {
     ghost use Rattle.rss_frames.specs.Entries.{Shows, AreDistinct, admitted, bytes_of, entries, entry, room, fronted, written, others, settled, eldest, name_of};
     ghost use Rattle.rss_frames.specs.Frames.{frame_in, HasRoom, Admits, Evicts, IsEmptied, ReadsIn, CopiesFrame};
-    ghost use Rattle.rss_frames.specs.Lends.{EndsUsed, LendsPage};
+    ghost use Rattle.rss_frames.specs.Lends.{EndsUsed, LendsPage, LendsAll, LendsFrames, LendsTwo};
+    ghost use Rattle.rss_frames.specs.Places.{IsSound, frame_for, marked, with_both};
+    ghost use Rattle.rss_frames.specs.Pairs.{page_at};
+    ghost use Rattle.rss_frames.specs.Table.{key_at};
 
     /// So many frames with no page. Nothing else here takes memory.
     pub fn new(alloc: Global, frames: u32) -> Result<Frames, AllocError>
         requires { 0 < frames }
         ensures { IfOk result (λ all. Shows all [] frames) }
     {
-        Ok(Frames {
-            table: KeyTable::new(alloc, frames)?,
-            used: Order::new(alloc, frames)?,
-            free: all_free(alloc, frames)?,
-            pages: vec![in alloc; [0; PAGE_BYTES]; frames as usize]?,
-            changed: vec![in alloc; false; frames as usize]?,
-        })
+        let mask = mask_for(frames);
+        let (part, lease) = claim(&alloc, all_units(frames as usize, mask as usize))?;
+        Ok(Frames::laid(alloc, part, lease, frames, mask))
+    }
+
+    /// So many frames with no page in a block of as many units as they take.
+    fn laid(alloc: Global, part: Part, lease: Lease<Global>, frames: u32, mask: u32) -> Frames
+        requires some { 0 < frames }
+        requires size { part.len ≡ units_of frames mask }
+        requires lease { (lease.ptr ≡ part.ptr) × (lease.len ≡ part.len) × (lease.alloc ≡ alloc) }
+        requires small { part.len * 16 < 2 ^ 63 }
+        ensures { Shows result [] frames }
+    {
+        let room = frames as usize;
+        let (table, part) = KeyTable::new(part, frames, mask);
+        let (used, part) = Order::new(part, frames);
+        let (free, part) = all_free(part, frames);
+        let (pages, pages_seat, part) = row_of(part, room, PAGE_BYTES, [0; PAGE_BYTES]);
+        let (changed, changed_seat, rest) = row_of(part, room, 1, false);
+        Frames {
+            table,
+            used,
+            free,
+            pages,
+            pages_seat,
+            changed,
+            changed_seat,
+            rest,
+            lease,
+            alloc,
+        }
     }
 
     /// Whether each frame has a page.
@@ -123,6 +208,23 @@ impl Frames {
         self.used.to_front(frame);
         self.changed[frame as usize] = true;
         Some(&mut self.pages[frame as usize])
+    }
+
+    /// Two different pages that are in memory, both to be written. They are marked as changed, and
+    /// become the ones that were used last, `first` before `second`.
+    pub fn two_mut(&mut self, first: PageKey, second: PageKey) -> TwoPages<'_>
+        requires first { IsSome (frame_in self.old first) }
+        requires second { IsSome (frame_in self.old second) }
+        requires apart { first ≢ second }
+        ensures* writes_back { sem 𝓛 (LendsTwo self.entry first second result) }
+        ensures shows { (v w : List ℕ) → Shows (with_both first v second w self.old)
+            (written first v (written second w (entries self.old))) (room self.old) }
+        ensures first { bytes_of (entry first (entries self.old)) ≡ Some result.first.now }
+        ensures second { bytes_of (entry second (entries self.old)) ≡ Some result.second.now }
+    {
+        let low = self.mark(second);
+        let high = self.mark(first);
+        self.lend_two(high, low)
     }
 
     /// A page, if it is in memory, and whether it was changed. This is no use of it.
@@ -260,6 +362,41 @@ impl Frames {
         if let Some(frame) = self.table.find(key) {
             self.changed[frame as usize] = false;
         }
+    }
+
+    /// Marks a page that is in memory as changed, and makes it the one that was used last. Answers
+    /// its frame.
+    fn mark(&mut self, key: PageKey) -> u32
+        requires { IsSome (frame_in self.old key) }
+        ensures sound { IsSound self.old }
+        ensures at { key_at self.old.keys result ≡ Some key }
+        ensures frame { result ≡ frame_for key self.old }
+        ensures now { self.new ≡ marked key self.old }
+    {
+        let frame = place(&self.table, key);
+        self.used.to_front(frame);
+        self.changed[frame as usize] = true;
+        frame
+    }
+
+    /// The pages of all frames.
+    fn lend_all(&mut self) -> &mut [Page]
+        ensures* writes_back { sem 𝓛 (LendsAll self.entry result) }
+        ensures value { result.now ≡ self.old.pages }
+    {
+        self.pages.as_mut_slice()
+    }
+
+    /// The pages of two frames.
+    fn lend_two(&mut self, first: u32, second: u32) -> TwoPages<'_>
+        requires apart { first ≢ second }
+        requires first_within { first < length self.old.pages }
+        requires second_within { second < length self.old.pages }
+        ensures* writes_back { sem 𝓛 (LendsFrames self.entry first second result) }
+        ensures values { (result.first.now ≡ page_at self.old.pages first)
+            × (result.second.now ≡ page_at self.old.pages second) }
+    {
+        pair(self.lend_all(), first, second)
     }
 
     /// Gives a page that isn't in memory a free frame. What its bytes are is any. The page becomes

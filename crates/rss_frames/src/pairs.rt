@@ -6,9 +6,10 @@ ghost use Rattle.rss_frames.specs.Pairs.{LendsPair, page_at};
 use rss_base::Page;
 
 /// Two pages, both lent for writing.
-pub(crate) struct TwoPages<'a> {
-    pub(crate) first: &'a mut Page,
-    pub(crate) second: &'a mut Page,
+#[derive(Drop)]
+pub struct TwoPages<'a> {
+    pub first: &'a mut Page,
+    pub second: &'a mut Page,
 }
 
 /// Two pages of a slice.

@@ -1,7 +1,7 @@
 // Which page leaves memory, beside a map of the kit's that is ordered by recency.
 use lru::LruCache;
 use rss_base::{PageKey, Space};
-use rss_frames::Frames;
+use rss_frames::{Frames, TwoPages};
 use rss_images::{Draws, assert_same};
 use std::alloc::Global;
 use std::num::NonZeroUsize;
@@ -178,6 +178,19 @@ fn leave_whole(frames: &mut Frames) -> Option<(u32, bool, u8)> {
     Some((key.number, changed, page[0]))
 }
 
+/// Writes to two pages that are lent at once, and tells whether both are in memory.
+fn are_written(frames: &mut Frames, first: u32, second: u32) -> bool {
+    let one = key_of(first);
+    let other = key_of(second);
+    if one == other || !frames.has(one) || !frames.has(other) {
+        return false;
+    }
+    let TwoPages { first, second } = frames.two_mut(one, other);
+    first[0] = 1;
+    second[0] = 2;
+    true
+}
+
 /// The pages in memory, with whether each was changed.
 type Marks = LruCache<PageKey, bool>;
 
@@ -321,4 +334,18 @@ fn the_same_pages_leave_by_the_calls_that_lend(rt: HostRuntime) -> Result<(), Fa
     let mut lending = lending_frames(rt.alloc())?;
     let mut marks = marks(rt.alloc())?;
     assert_alike(&mut lending, &mut marks)
+}
+
+#[test]
+fn two_pages_are_lent_at_once(rt: HostRuntime) -> Result<(), Fail> {
+    let mut lending = lending_frames(rt.alloc())?;
+    for number in 0..4 {
+        lending.try_admit(number)?;
+    }
+    assert_same(&are_written(&mut lending.frames, 2, 0), &true, "both")?;
+    assert_same(&are_written(&mut lending.frames, 2, 4), &false, "one")?;
+    for left in [(1, false, 0), (3, false, 0), (0, true, 2), (2, true, 1)] {
+        assert_same(&leave_whole(&mut lending.frames), &Some(left), "leaves")?;
+    }
+    assert_same(&leave_whole(&mut lending.frames), &None, "the end")
 }

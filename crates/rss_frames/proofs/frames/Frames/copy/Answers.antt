@@ -14,37 +14,37 @@ use Rattle.rss_frames.proofs.Shown.{frames_apart, shown}
 use Rattle.rss_frames.proofs.frames.Frames.copy.Goals as goal
 
 pub place-low-requires : goal.place-low-requires
-place-low-requires c = there_from_entry (the_view c.self.inside) _ _ c.self.invariant c.args.to (subst (λ (s : State). IsSome (frame_in s c.args.to)) (sym c.self.view_is) c.requires.to)
+place-low-requires c = there_from_entry (the_view c.self.inside) _ _ c.self.invariant.0 c.args.to (subst (λ (s : State). IsSome (frame_in s c.args.to)) (sym c.self.view_is) c.requires.to)
 
 pub place-high-requires : goal.place-high-requires
-place-high-requires c = there_from_entry (the_view c.self.inside) _ _ c.self.invariant c.args.from (subst (λ (s : State). IsSome (frame_in s c.args.from)) (sym c.self.view_is) c.requires.from)
+place-high-requires c = there_from_entry (the_view c.self.inside) _ _ c.self.invariant.0 c.args.from (subst (λ (s : State). IsSome (frame_in s c.args.from)) (sym c.self.view_is) c.requires.from)
 
 pub to_front-requires-2 : goal.to_front-requires-2
 to_front-requires-2 c =
-    let k = c.self.invariant in
+    let k = c.self.invariant.0 in
     let off = frames_apart (the_view c.self.inside) _ _ k c.args.to c.args.from c.place-low.result c.place-high.result c.place-low.ensures.at c.place-high.ensures.at (λ e. c.requires.apart (sym e)) in
     rw c.to_front.ensures (inr (Has-kept c.place-high.result c.place-low.result c.self.inside.used.frames (k.has_used _ _ c.place-low.ensures.at) off))
 
 pub invariant_of-self : goal.invariant_of-self
 invariant_of-self c =
     let f = c.self.inside in
-    let k = c.self.invariant in
+    let k = c.self.invariant.0 in
     let low = c.place-low.result in
     let high = c.place-high.result in
     let off = frames_apart (the_view f) _ _ k c.args.to c.args.from low high c.place-low.ensures.at c.place-high.ensures.at (λ e. c.requires.apart (sym e)) in
-    let s1 : State = record { keys = f.table; used = high ∷ without high f.used.frames; pages = f.pages.items; marks = f.changed.items } in
-    let s2 : State = record { keys = f.table; used = low ∷ without low (high ∷ without high f.used.frames); pages = f.pages.items; marks = f.changed.items } in
+    let s1 : State = record { keys = f.table.keys; used = high ∷ without high f.used.frames; pages = f.pages.items; marks = f.changed.items } in
+    let s2 : State = record { keys = f.table.keys; used = low ∷ without low (high ∷ without high f.used.frames); pages = f.pages.items; marks = f.changed.items } in
     let k1 = front (the_view f) _ _ k high (k.has_used _ _ c.place-high.ensures.at) in
     let k2 = front s1 _ _ k1 low (inr (Has-kept high low f.used.frames (k.has_used _ _ c.place-low.ensures.at) off)) in
     let ws : List (List ℕ) = with_two c.as_mut_slice.result.now low high c.copy_bytes.new.to c.pair-first.result.second.now in
     let many : length ws ≡ length f.pages.items = simp length-set (ap length c.as_mut_slice.ensures.value) in
-    rw (with_items_is f.pages ws (many ∙ sym f.pages.ok.0), c.to_front-2.ensures, c.to_front.ensures) (rewritten s2 _ _ k2 ws (set f.changed.items low true) many (length-set f.changed.items low true))
+    rw (with_items_is f.pages ws (many ∙ sym f.pages.ok.0), c.to_front-2.ensures, c.to_front.ensures) (rewritten s2 _ _ k2 ws (set f.changed.items low true) many (length-set f.changed.items low true), c.self.invariant.1, c.self.invariant.2)
 
 pub returns : goal.returns
 returns c =
     let f = c.self.inside in
     let s = the_view f in
-    let k = c.self.invariant in
+    let k = c.self.invariant.0 in
     let low = c.place-low.result in
     let high = c.place-high.result in
     let at_low = c.place-low.ensures.at in

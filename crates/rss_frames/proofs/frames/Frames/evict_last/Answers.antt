@@ -23,20 +23,20 @@ returns-in_err-frame c =
 pub key-requires : goal.key-requires
 key-requires c =
     let is : last_frame c.self.inside.used.frames ≡ Some c.in_ok-frame.frame = sym c.in_ok-frame.ensures in
-    let o = c.self.invariant.used_has c.in_ok-frame.frame (last_has _ _ is) in
-    frame_within c.self.inside.table c.in_ok-frame.frame o.0 o.1
+    let o = c.self.invariant.0.used_has c.in_ok-frame.frame (last_has _ _ is) in
+    frame_within c.self.inside.table.keys c.in_ok-frame.frame o.0 o.1
 
 pub returns-in_err-key : goal.returns-in_err-key
 returns-in_err-key c =
     let is : last_frame c.self.inside.used.frames ≡ Some c.in_ok-frame.frame = sym c.in_ok-frame.ensures in
-    let o = c.self.invariant.used_has c.in_ok-frame.frame (last_has _ _ is) in
-    let none : None ≡ key_at c.self.inside.table c.in_ok-frame.frame = c.in_err-key.ensures in
+    let o = c.self.invariant.0.used_has c.in_ok-frame.frame (last_has _ _ is) in
+    let none : None ≡ key_at c.self.inside.table.keys c.in_ok-frame.frame = c.in_err-key.ensures in
     let never : None ≡ Some o.0 = none ∙ o.1 in cc
 
 pub returns : goal.returns
 returns c =
     let s = the_view c.self.inside in
-    let k = c.self.invariant in
+    let k = c.self.invariant.0 in
     let i = c.in_ok-frame.frame in
     let is : last_frame s.used ≡ Some i = sym c.in_ok-frame.ensures in
     let at : key_at s.keys i ≡ Some c.in_ok-key.key = sym c.in_ok-key.ensures in

@@ -12,17 +12,17 @@ returns-in_err-frame c =
     let s = the_view c.self.inside in
     let none = c.in_err-frame.ensures in
     rw (c.from_residual.ensures, ← c.self.view_is) (
-      (refl, λ w. tt, absent_fronted s _ _ c.self.invariant c.args.key none),
-      record { used = tt; value = sym (ap bytes_of (absent_entry s _ _ c.self.invariant c.args.key none)) },
+      (refl, λ w. tt, absent_fronted s _ _ c.self.invariant.0 c.args.key none),
+      record { used = tt; value = sym (ap bytes_of (absent_entry s _ _ c.self.invariant.0 c.args.key none)) },
     )
 
 pub invariant_of-self-2 : goal.invariant_of-self-2
-invariant_of-self-2 c = rw c.to_front.ensures (front (the_view c.self.inside) _ _ c.self.invariant c.in_ok-frame.frame (c.self.invariant.has_used _ _ c.in_ok-frame.ensures.at))
+invariant_of-self-2 c = rw c.to_front.ensures (front (the_view c.self.inside) _ _ c.self.invariant.0 c.in_ok-frame.frame (c.self.invariant.0.has_used _ _ c.in_ok-frame.ensures.at), c.self.invariant.1, c.self.invariant.2)
 
 pub returns : goal.returns
 returns c =
     let f = c.self.inside in
-    let k = c.self.invariant in
+    let k = c.self.invariant.0 in
     let found = c.in_ok-frame.ensures in
     let bytes = get_or_read f.pages.items c.in_ok-frame.frame c.index.result.now (omega (arith, found.within, k.pages_len)) c.index.ensures [] in
     rw (← c.self.view_is) (

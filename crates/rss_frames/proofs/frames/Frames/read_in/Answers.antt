@@ -19,7 +19,7 @@ returns-then-is_err-clause-err g c =
     let e : Held = record { key = c.args.key; bytes = bytes; changed = false } in
     let new = the_view c.self.inside in
     let admits : Admits c.args.key c.give_frame-frame.result false c.args.self.now new = rw c.self.view_is c.give_frame-frame.ensures in
-    let shows = shown_admitted c.args.self.now new _ _ c.self.invariant c.args.key c.give_frame-frame.result false admits bytes in
+    let shows = shown_admitted c.args.self.now new _ _ c.self.invariant.0 c.args.key c.give_frame-frame.result false admits bytes in
     on_err c.read-result.result (c.remove.ensures.gone.are ∙ ap (others c.args.key) shows.are ∙ others_new e es (none_entry (entry c.args.key es) c.requires.absent))
 
 pub returns-else-is_err-clause-ok : goal.returns-else-is_err-clause-ok
@@ -27,5 +27,5 @@ returns-else-is_err-clause-ok g c =
     let bytes = c.read-result.new.into in
     let new = the_view c.self.inside in
     let admits : Admits c.args.key c.give_frame-frame.result false c.args.self.now new = rw c.self.view_is c.give_frame-frame.ensures in
-    let shows = shown_admitted c.args.self.now new _ _ c.self.invariant c.args.key c.give_frame-frame.result false admits bytes in
+    let shows = shown_admitted c.args.self.now new _ _ c.self.invariant.0 c.args.key c.give_frame-frame.result false admits bytes in
     on_ok_weaker c.read-result.result (λ read. record { bytes = bytes; now = shows.are; read = read }) c.read-result.ensures.page

@@ -13,5 +13,5 @@ pub returns : goal.returns
 returns c =
     let o = c.self.inside in
     let some : 0 < length (ring o.next.items o.len o.room) = omega (arith, length-walk o.next.items o.len (get_or o.next.items o.room 0), c.if-self-eq0.false) in
-    let read = get_or_read o.prev.items o.room c.index.result.now (omega (arith, c.self.invariant.prevs)) c.index.ensures 0 in
-    rw (← c.self.view_is) (ap Some read ∙ last_found o.next.items o.prev.items o.room _ some c.self.invariant)
+    let read = get_or_read o.prev.items o.room c.index.result.now (omega (arith, c.self.invariant.0.prevs)) c.index.ensures 0 in
+    rw (← c.self.view_is) (ap Some read ∙ last_found o.next.items o.prev.items o.room _ some c.self.invariant.0)

@@ -14,3 +14,6 @@ returns-clause-frames c =
 
 pub returns-clause-gone : goal.returns-clause-gone
 returns-clause-gone c = λ h. (Has-without c.in_ok-frame.frame c.in_ok-frame.frame c.args.self.now.frames (subst (λ (r : Recency). Has c.in_ok-frame.frame r.frames) c.unlink.ensures.frames h)).1 refl
+
+pub returns-clause-kept : goal.returns-clause-kept
+returns-clause-kept c = rw c.unlink.ensures.frames refl

@@ -1,6 +1,7 @@
 use Rattle.std.proofs.Common.{◌≡◌, ℕ, ◌+◌, ◌-◌, ◌<◌, ◌≤◌, length, get_or, set, refl, sym, ◌∙◌, subst, arith}
 use Rattle.std.proofs.lemmas.List.{get_or_read}
 use Rattle.rss_frames.specs.declared.recency.Order.TheInside.{Inside}
+use Rattle.rss_frames.specs.contracts.recency.Order.{the_view}
 use Rattle.rss_frames.specs.Recency.{Recency}
 use Rattle.rss_frames.specs.Lists.{Has, without}
 use Rattle.rss_frames.specs.Links.{ring, IsLinked}
@@ -39,44 +40,44 @@ module _ (o : Inside) (frame : ℕ) (k : Opened o frame) where
     frames_are : ring (set o.next.items b a) (o.len - 1) o.room ≡ without frame (ring o.next.items o.len o.room)
     frames_are = ring_is _ _ o.room (o.len - 1) _ (omega (arith, counted.0)) now.leads
 
-opened : (o : Inside) (frame : ℕ) (r : Recency) → record { frames = ring o.next.items o.len o.room; room = o.room } ≡ r → Has frame r.frames
+opened : (o : Inside) (frame : ℕ) (r : Recency) → the_view o ≡ r → Has frame r.frames
     → IsLinked o.next.items o.prev.items o.room (ring o.next.items o.len o.room) → Opened o frame
 opened o frame r e has linked = record { has = subst (λ (v : Recency). Has frame v.frames) (sym e) has; linked = linked }
 
 pub index-before-requires : goal.index-before-requires
-index-before-requires c = omega (arith, within c.self.inside c.args.frame (opened _ _ _ c.self.view_is c.requires c.self.invariant), c.self.invariant.prevs)
+index-before-requires c = omega (arith, within c.self.inside c.args.frame (opened _ _ _ c.self.view_is c.requires c.self.invariant.0), c.self.invariant.0.prevs)
 
 pub index-after-requires : goal.index-after-requires
-index-after-requires c = omega (arith, within c.self.inside c.args.frame (opened _ _ _ c.self.view_is c.requires c.self.invariant), c.self.invariant.nexts)
+index-after-requires c = omega (arith, within c.self.inside c.args.frame (opened _ _ _ c.self.view_is c.requires c.self.invariant.0), c.self.invariant.0.nexts)
 
 pub index_mut-requires : goal.index_mut-requires
-index_mut-requires c = omega (arith, (before c.self.inside c.args.frame (opened _ _ _ c.self.view_is c.requires c.self.invariant) _ c.index-before.ensures).1, c.self.invariant.nexts)
+index_mut-requires c = omega (arith, (before c.self.inside c.args.frame (opened _ _ _ c.self.view_is c.requires c.self.invariant.0) _ c.index-before.ensures).1, c.self.invariant.0.nexts)
 
 pub index_mut-requires-2 : goal.index_mut-requires-2
-index_mut-requires-2 c = omega (arith, (after c.self.inside c.args.frame (opened _ _ _ c.self.view_is c.requires c.self.invariant) _ c.index-after.ensures).1, c.self.invariant.prevs)
+index_mut-requires-2 c = omega (arith, (after c.self.inside c.args.frame (opened _ _ _ c.self.view_is c.requires c.self.invariant.0) _ c.index-after.ensures).1, c.self.invariant.0.prevs)
 
 pub overflow_sub-self : goal.overflow_sub-self
-overflow_sub-self c = omega (arith, (counted c.self.inside c.args.frame (opened _ _ _ c.self.view_is c.requires c.self.invariant)).0)
+overflow_sub-self c = omega (arith, (counted c.self.inside c.args.frame (opened _ _ _ c.self.view_is c.requires c.self.invariant.0)).0)
 
 pub invariant_of-self : goal.invariant_of-self
 invariant_of-self c =
-    let k = opened c.self.inside c.args.frame _ c.self.view_is c.requires c.self.invariant in
-    rw (frames_are _ _ k _ _ c.index-before.ensures c.index-after.ensures) (now _ _ k _ _ c.index-before.ensures c.index-after.ensures)
+    let k = opened c.self.inside c.args.frame _ c.self.view_is c.requires c.self.invariant.0 in
+    (rw (frames_are _ _ k _ _ c.index-before.ensures c.index-after.ensures) (now _ _ k _ _ c.index-before.ensures c.index-after.ensures), c.self.invariant.1)
 
 pub returns-clause-frames : goal.returns-clause-frames
 returns-clause-frames c =
-    let k = opened c.self.inside c.args.frame _ c.self.view_is c.requires c.self.invariant in
+    let k = opened c.self.inside c.args.frame _ c.self.view_is c.requires c.self.invariant.0 in
     rw (frames_are _ _ k _ _ c.index-before.ensures c.index-after.ensures, ← c.self.view_is) refl
 
 pub returns-clause-count : goal.returns-clause-count
 returns-clause-count c =
-    let k = opened c.self.inside c.args.frame _ c.self.view_is c.requires c.self.invariant in
-    rw (frames_are _ _ k _ _ c.index-before.ensures c.index-after.ensures, ← c.self.view_is) (length-without c.args.frame _ c.self.invariant.apart k.has)
+    let k = opened c.self.inside c.args.frame _ c.self.view_is c.requires c.self.invariant.0 in
+    rw (frames_are _ _ k _ _ c.index-before.ensures c.index-after.ensures, ← c.self.view_is) (length-without c.args.frame _ c.self.invariant.0.apart k.has)
 
 pub returns-clause-within : goal.returns-clause-within
 returns-clause-within c =
-    let k = opened c.self.inside c.args.frame _ c.self.view_is c.requires c.self.invariant in
+    let k = opened c.self.inside c.args.frame _ c.self.view_is c.requires c.self.invariant.0 in
     rw (← c.self.view_is) (within _ _ k)
 
 pub returns-clause-apart : goal.returns-clause-apart
-returns-clause-apart c = rw (← c.self.view_is) c.self.invariant.apart
+returns-clause-apart c = rw (← c.self.view_is) c.self.invariant.0.apart
