@@ -1,0 +1,14 @@
+pub mod Lists
+pub mod Maps
+pub mod Puts
+pub mod Judged
+pub mod DefinitionTests
+pub mod Alike
+pub mod Makings
+pub mod Bars
+pub mod Chains
+pub mod Free
+pub mod KeyItems
+pub mod Uniques
+pub mod Originals
+pub mod Repeats

@@ -1,0 +1,9 @@
+use Rattle.std.proofs.Common.{sym}
+use Rattle.rss_plain.specs.View.{machine}
+use Rattle.rss_plain.proofs.Judged.{judged_abort}
+use Rattle.rss_plain.proofs.plain.Plain.judge_abort.Goals as goal
+
+pub returns : goal.returns
+returns c =
+    rw (c.unless_open.ensures)
+    (sym (judged_abort (machine c.args.self.now) c.args.t))

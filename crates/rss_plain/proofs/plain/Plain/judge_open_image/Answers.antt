@@ -1,0 +1,20 @@
+use Rattle.std.proofs.Common.{sym}
+use Rattle.rss_plain.specs.View.{machine}
+use Rattle.rss_plain.proofs.Judged.{judged_open_image}
+use Rattle.rss_plain.proofs.plain.Plain.judge_open_image.Goals as goal
+
+pub returns : goal.returns
+returns c =
+    rw (
+      c.or-4.ensures,
+      c.or-3.ensures,
+      c.or-2.ensures,
+      c.or.ensures,
+      c.unless_open.ensures,
+      c.unless_image.ensures,
+      c.if_scans_used_up.ensures,
+      c.if_busy.ensures,
+      c.in_ok-needs.ensures,
+      c.in_ok-misfit.ensures,
+    )
+    (sym (judged_open_image (machine c.args.self.now) c.args.t c.args.image.now c.args.start.now))

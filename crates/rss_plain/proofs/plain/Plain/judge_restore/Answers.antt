@@ -1,0 +1,9 @@
+use Rattle.std.proofs.Common.{sym}
+use Rattle.rss_plain.specs.View.{machine}
+use Rattle.rss_plain.proofs.Judged.{judged_restore}
+use Rattle.rss_plain.proofs.plain.Plain.judge_restore.Goals as goal
+
+pub returns : goal.returns
+returns c =
+    rw (c.or.ensures, c.unless_open.ensures, c.unless_saved.ensures)
+    (sym (judged_restore (machine c.args.self.now) c.args.t c.args.save))

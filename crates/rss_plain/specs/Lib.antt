@@ -1,0 +1,11 @@
+pub mod Maps
+pub mod Kinds
+pub mod Kept
+pub mod Seen
+pub mod Judging
+pub mod Making
+pub mod View
+pub mod Tests
+pub mod Keys
+pub mod Entries
+pub mod Defining
