@@ -35,7 +35,7 @@ use Rattle.rss_draft.proofs.Among.{in_of}
 
 -- ---- keys
 
-other_than : (tid other : Tid) → is_other (Some tid) other ≡ false → other ≡ tid
+pub other_than : (tid other : Tid) → is_other (Some tid) other ≡ false → other ≡ tid
 other_than tid other is = sym (tid_same tid other (negated (is_tid tid other) is))
   where
     negated : (b : Bool) → not b ≡ false → b ≡ true
@@ -67,18 +67,18 @@ idle tables = record {
 unlinked_by : (tables : Tables) (relation : Name) (tid : Tid) (next : Option (List Value)) → (next ≡ None → connected tables relation tid ≡ None) → Unlinked tables relation tid next
 unlinked_by tables relation tid next none gone = unlinked_of (idle tables) relation tid (ap (option_map Connected) (none gone)) refl
 
-either : (a b : Bool) → (a || b) ≡ true → (a ≡ true) ⊎ (b ≡ true)
+pub either : (a b : Bool) → (a || b) ≡ true → (a ≡ true) ⊎ (b ≡ true)
 either true b is = inl refl
 either false b is = inr is
 
-same_names : (a b : Name) → is_name a b ≡ true → a ≡ b
+pub same_names : (a b : Name) → is_name a b ≡ true → a ≡ b
 same_names a b is = name_apart a b ((Equal-is (name_cmp a b)).0 is)
 
-this_one : (above : Option Name) (name : Name) → is_this above name ≡ true → above ≡ Some name
+pub this_one : (above : Option Name) (name : Name) → is_this above name ≡ true → above ≡ Some name
 this_one None name is = absurd (cc (is))
 this_one (Some one) name is = ap (λ (n : Name). Some n) (same_names one name is)
 
-unmapped : {A B : Type 0} (f : A → B) (o : Option A) → option_map f o ≡ None → o ≡ None
+pub unmapped : {A B : Type 0} (f : A → B) (o : Option A) → option_map f o ≡ None → o ≡ None
 unmapped f None is = refl
 unmapped f (Some a) is = absurd (cc (is))
 

@@ -1,0 +1,12 @@
+use Rattle.std.proofs.Common.{rules, tests, sym, ◌∙◌}
+use Rattle.rss_draft.proofs.FoundAs.{used_link, form_unused, form_decides}
+use Rattle.rss_draft.proofs.finding.has_form.Goals as goal
+
+pub returns-then-not-used : goal.returns-then-not-used
+returns-then-not-used c = form_unused (sym (used_link c.args.catalog.now.listing c.args.membership.link) ∙ sym c.used.ensures ∙ c.if-not-used.true)
+
+pub link-requires : goal.link-requires
+link-requires c = sym (used_link c.args.catalog.now.listing c.args.membership.link) ∙ sym c.used.ensures ∙ c.if-not-used.false
+
+pub returns : goal.returns
+returns c = form_decides c.link.result.now c.link.ensures.is _ (search (rules, tests))
