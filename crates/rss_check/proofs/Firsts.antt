@@ -98,7 +98,7 @@ layout_once first (shared at older newer front behind change its split crowded) 
 layout_once first (no_way at none) other = absurd (omega (arith, first))
 layout_once first (no_room at stored over log less) other = absurd (omega (arith, first))
 
-not_before : (a b : Place) → a ≡ b → ComesBefore a b → ⊥
+pub not_before : (a b : Place) → a ≡ b → ComesBefore a b → ⊥
 not_before a b same before =
     let never : Equal ≡ Less = sym (tied_itself nat_list_cmp_total (numbers_of b)) ∙ ap (λ (p : Place). slice_cmp nat_cmp (numbers_of p) (numbers_of b)) (sym same) ∙ before in
     cc (never)

@@ -1,6 +1,6 @@
 -- The tables that the pages of a store are found to spell, where they are sound; and that sound pages are those of tables.
 use Rattle.std.proofs.Common.{◌≡◌, ◌⊎◌, inl, inr, ℕ, ◌<◌, ◌≤◌, true, false, cond, List, ◌∷◌, ◌++◌, drop, refl, sym, ◌∙◌, ap, subst, arith}
-use Rattle.std.specs.Prelude.{Option, Some, None, is_some, option_map, ◌==◌}
+use Rattle.std.specs.Prelude.{Option, Some, None, is_some, option_map, Contains, ◌==◌}
 use Rattle.std.specs.FinMap as map
 use Rattle.std.specs.FinMap.{same_map, get-retain_keys}
 use Rattle.std.proofs.lemmas.Bool.{cases_Bool, cases_lt, true≢false, eq-eqb, and_from}
@@ -37,9 +37,10 @@ use Rattle.rss_model.specs.Items.{Content, Values}
 use Rattle.rss_model.specs.Tables.{RelationDef, ImageDef, Contents, Tables, content, fields_of, segment_of, is_tuple_of, tuple_count}
 use Rattle.rss_model.specs.Fits.{HasContent, IsTupleOf, IsLive, IsIdentifier, Fits, tuple_limit}
 use Rattle.rss_model.specs.Images.{HasKey, KeysFit}
-use Rattle.rss_stored.specs.Store.{IsStorePage, IsTupleItem, IsListedImage, AreCounts, AreNodesWithin, Defines, SpellsImages, SpellsTables, IsTupleBody, IsChainItem, image_definition, prefix_of, fields_at, body_of}
+use Rattle.rss_stored.specs.Store.{IsStorePage, IsTupleItem, IsListedImage, IsReached, AreCounts, AreNodesWithin, Defines, SpellsImages, SpellsTables, IsTupleBody, IsChainItem, image_definition, prefix_of, fields_at, body_of}
 use Rattle.rss_model.proofs.Codes.{item_total, item_apart, name_total, name_apart}
 use Rattle.rss_model.proofs.Contents.{not_tied}
+use Rattle.rss_stored.proofs.ImagePages.{image_once}
 use Rattle.rss_stored.proofs.Listed.{listed, fields_at_is, stands_within, number_within}
 use Rattle.rss_model.proofs.LogLists.{some_of}
 use Rattle.rss_model.proofs.Putting.{same_parts}
@@ -50,13 +51,18 @@ use Rattle.rss_members.proofs.Prefixed.{long_prefix}
 use Rattle.rss_members.proofs.Gathered.{StandsIn, IsBodyOfTuple, SpellsTuples, chains_had}
 use Rattle.rss_members.proofs.GatheredChains.{Gathered, gathered, no_ends_had}
 use Rattle.rss_entries.specs.Seeking.{AreSingle}
+use Rattle.rss_entries.proofs.Fitting.{fitting_nodes}
+use Rattle.rss_entries.proofs.Standing.{AreLow}
 use Rattle.rss_access.specs.Bodies.{is_body, is_values_of}
 use Rattle.rss_access.specs.Changes.{AccessView}
-use Rattle.rss_access.specs.Checking.{ShowsTuples}
+use Rattle.rss_access.specs.Checking.{ShowsTuples, IsSound as IsSoundImage}
+use Rattle.rss_access.specs.Rows.{HasRows}
 use Rattle.rss_access.proofs.Bodied.{body_is}
 use Rattle.rss_access.proofs.Looking.{single}
 use Rattle.rss_access.proofs.NodesReached.{all_within}
-use Rattle.rss_check.specs.Checks.{count_of, IsSegmentOf, AreSound, ChecksImages, ChecksLinks}
+use Rattle.rss_access.proofs.RowsHad.{rows_sound}
+use Rattle.rss_check.specs.Checks.{count_of, IsSegmentOf, ChecksLinks}
+use Rattle.rss_check.specs.Rows.{HasImages}
 use Rattle.rss_check.specs.Looks.{HoldsTables, HoldsNone}
 use Rattle.rss_check.proofs.Empties.{entry_none, linked_none}
 use Rattle.rss_check.proofs.Made.{definitions_of, listing_defines, listing_fits}
@@ -94,7 +100,7 @@ module _ (held : Held) (slots : ℕ) (allowed : (key : PageKey) → is_some (hel
           }
 
 -- a page of a tuple store is one of a segment that is listed
-pub heap_listed : (held : Held) (listing : Listing) → ((key : PageKey) → is_some (held key) ≡ true → IsStorePage listing key) → (key : PageKey) → IsHeapKey key → is_some (held key) ≡ true → is_some (segment_at listing key.segment) ≡ true
+heap_listed : (held : Held) (listing : Listing) → ((key : PageKey) → is_some (held key) ≡ true → IsStorePage listing key) → (key : PageKey) → IsHeapKey key → is_some (held key) ≡ true → is_some (segment_at listing key.segment) ≡ true
 heap_listed held listing only key heap there = elim (only key there) [
   | inl system ↦ elim heap [ inl home ↦ absurd (cc) | inr over ↦ absurd (cc) ]
   | inr listed ↦ listed
@@ -105,20 +111,20 @@ none_if None lacks = refl
 none_if (Some bytes) lacks = absurd (lacks refl)
 
 -- where no segment of this number is listed, its pages are linked
-unlisted_linked : (held : Held) (listing : Listing) → ((key : PageKey) → is_some (held key) ≡ true → IsStorePage listing key) → (segment : ℕ) → is_some (segment_at listing segment) ≡ false → AreLinked (homes held segment) (overflows held segment)
-unlisted_linked held listing only segment none = linked_none (homes held segment) (overflows held segment)
+unlisted_linked : (held : Held) (listing : Listing) → ((key : PageKey) → IsHeapKey key → is_some (held key) ≡ true → is_some (segment_at listing key.segment) ≡ true) → (segment : ℕ) → is_some (segment_at listing segment) ≡ false → AreLinked (homes held segment) (overflows held segment)
+unlisted_linked held listing heaps segment none = linked_none (homes held segment) (overflows held segment)
     (λ page slot. entry_none held segment Home page slot (gone Home page (inl refl)))
     (λ page slot. entry_none held segment Overflow page slot (gone Overflow page (inr refl)))
   where
     gone : (space : Space) (page : ℕ) → IsHeapKey (page_key segment space page) → held (page_key segment space page) ≡ None
-    gone space page heap = none_if (held (page_key segment space page)) (λ there. true≢false (sym (heap_listed held listing only (page_key segment space page) heap there) ∙ none))
+    gone space page heap = none_if (held (page_key segment space page)) (λ there. true≢false (sym (heaps (page_key segment space page) heap there) ∙ none))
 
 -- ---- pages that are found sound
 
-module _ (held : Held) (slots : ℕ) (listing : Listing) (fits : ListingFits listing) (only : (key : PageKey) → is_some (held key) ≡ true → IsStorePage listing key) (allowed : (key : PageKey) → is_some (held key) ≡ true → IsKey slots key)
+module _ (held : Held) (slots : ℕ) (listing : Listing) (fits : ListingFits listing) (heaps : (key : PageKey) → IsHeapKey key → is_some (held key) ≡ true → is_some (segment_at listing key.segment) ≡ true) (allowed : (key : PageKey) → is_some (held key) ≡ true → IsKey slots key)
     (sound : (segment : ℕ) → is_some (segment_at listing segment) ≡ true → IsSegmentOf held slots listing segment) where
   body_listed : (segment : ℕ) (tid : Tid) (body : List ℕ) → bodies_of held segment tid ≡ Some body → is_some (segment_at listing segment) ≡ true
-  body_listed segment tid body is = heap_listed held listing only (page_key segment Home tid.page) (inl refl) (there (held (page_key segment Home tid.page)) refl is)
+  body_listed segment tid body is = heaps (page_key segment Home tid.page) (inl refl) (there (held (page_key segment Home tid.page)) refl is)
     where
       there : (bytes : Option (List ℕ)) → held (page_key segment Home tid.page) ≡ bytes → body_by (overflows held segment) (held_at (contents_in bytes) tid.slot) ≡ Some body → is_some bytes ≡ true
       there None at stands = absurd (none-some body stands)
@@ -192,11 +198,11 @@ module _ (held : Held) (slots : ℕ) (listing : Listing) (fits : ListingFits lis
   pub linked_found : (segment : ℕ) → AreLinked (homes held segment) (overflows held segment)
   linked_found segment = elim (cases_Bool (is_some (segment_at listing segment))) [
     | inl is ↦ (sound segment is).sound.linked
-    | inr none ↦ unlisted_linked held listing only segment none
+    | inr none ↦ unlisted_linked held listing heaps segment none
   ]
 
   formed_found : (key : PageKey) (bytes : List ℕ) → IsHeapKey key → held key ≡ Some bytes → IsHeap key bytes None
-  formed_found key bytes heap is = (sound key.segment (heap_listed held listing only key heap (ap is_some is))).sound.formed key bytes (refl, heap) is
+  formed_found key bytes heap is = (sound key.segment (heaps key heap (ap is_some is))).sound.formed key bytes (refl, heap) is
 
   -- ---- they fit
 
@@ -314,15 +320,53 @@ keys_single {listing = listing} {tables = tables} fits defines single name image
     single has.number has.image its.relation listed_so (ap (λ (i : ImageDef). i.is_unique) same ∙ unique) one other key
     (subst (λ (i : ImageDef). HasKey tables i one key) (sym same) first) (subst (λ (i : ImageDef). HasKey tables i other key) (sym same) second)
 
+-- ---- images
+
+-- Each image that is listed shows these tables, with identifiers of the store, and where it is unique no key twice; and each page of the space of images is one of theirs.
+pub record AreSound (at : AccessView) (tables : Tables) : Type 0 where
+  pub each : (number : ℕ) (image : ImageEntry) (relation : RelationEntry)
+      → IsListedImage at.catalog.listing number image relation
+      → IsSoundImage at tables number image relation
+  pub reached : (key : PageKey) → key.space ≡ Image → is_some (at.pages.held key) ≡ true
+      → IsReached at.pages.held at.catalog.listing tables key
+
+module _ {at : AccessView} {tables : Tables} (small : at.pages.slots < 4294967296) (low : AreLow at.pages.held) (shows : ShowsTuples at tables) where
+  rows_shown : {number : ℕ} {image : ImageEntry} {relation : RelationEntry} {nodes : List ℕ} → IsListedImage at.catalog.listing number image relation
+      → HasRows at.pages.held at.pages.slots at.catalog.listing number image relation nodes → IsSoundImage at tables number image relation
+  rows_shown {number} {image} {relation} its rows =
+      rows_sound small shows its rows low (fitting_nodes at.catalog.listing shows.listed number image relation its)
+
+  -- images that have the rows of their relations show the tables that the tuples show
+  images_shown : HasImages at.pages.held at.pages.slots at.catalog.listing → AreSound at tables
+  images_shown images = record {
+    each = λ number image relation its. rows_shown its (images.each number image relation its).rows;
+    reached = λ key space there.
+        let of = images.reached key space there in
+        let shown = rows_shown of.listed of.rows in
+        record {
+          number = of.number;
+          image = of.image;
+          relation = of.relation;
+          pages = shown.pages;
+          at = of.listed;
+          spells = shown.spells;
+          segment = of.segment;
+          among = subst (λ (ps : List ℕ). Contains ps key.number) (image_once of.rows.tree shown.spells.tree) of.among;
+        };
+  }
+
 -- ---- pages whose images are found sound
 
 module _ (at : AccessView) (small : at.pages.slots < 4294967296) (fits : ListingFits at.catalog.listing) (only : (key : PageKey) → is_some (at.pages.held key) ≡ true → IsStorePage at.catalog.listing key) (allowed : (key : PageKey) → is_some (at.pages.held key) ≡ true → IsKey at.pages.slots key)
-    (sound : (segment : ℕ) → is_some (segment_at at.catalog.listing segment) ≡ true → IsSegmentOf at.pages.held at.pages.slots at.catalog.listing segment) (chains : ChecksLinks at) (images : ChecksImages at) where
+    (sound : (segment : ℕ) → is_some (segment_at at.catalog.listing segment) ≡ true → IsSegmentOf at.pages.held at.pages.slots at.catalog.listing segment) (chains : ChecksLinks at) (images : HasImages at.pages.held at.pages.slots at.catalog.listing) where
+  heaps : (key : PageKey) → IsHeapKey key → is_some (at.pages.held key) ≡ true → is_some (segment_at at.catalog.listing key.segment) ≡ true
+  heaps = heap_listed at.pages.held at.catalog.listing only
+
   abbrev tuples_alone : Tables
-  tuples_alone = found_tables at.pages.held at.pages.slots at.catalog.listing fits only allowed sound
+  tuples_alone = found_tables at.pages.held at.pages.slots at.catalog.listing fits heaps allowed sound
 
   found_chains : Gathered at.catalog.listing (bodies_of at.pages.held) tuples_alone
-  found_chains = gathered {view = tuples_in at.pages} (tuples_found at.pages.held at.pages.slots at.catalog.listing fits only allowed sound small) (item_found at.pages.held at.pages.slots at.catalog.listing fits only allowed sound)
+  found_chains = gathered {view = tuples_in at.pages} (tuples_found at.pages.held at.pages.slots at.catalog.listing fits heaps allowed sound small) (item_found at.pages.held at.pages.slots at.catalog.listing fits heaps allowed sound)
       (λ number link listed_so. (chains number link listed_so).chains) (λ number link listed_so. (chains number link listed_so).no_ends)
 
   abbrev tables : Tables
@@ -338,14 +382,23 @@ module _ (at : AccessView) (small : at.pages.slots < 4294967296) (fits : Listing
   found_shows = record {
     listed = fits;
     defines = listing_defines fits;
-    counts = λ number relation listed_so. count_same relation.name ∙ found_counts at.pages.held at.pages.slots at.catalog.listing fits only allowed sound number relation listed_so;
+    counts = λ number relation listed_so. count_same relation.name ∙ found_counts at.pages.held at.pages.slots at.catalog.listing fits heaps allowed sound number relation listed_so;
     contents = found_chains.spells.contents;
     tuples = found_chains.spells.tuples;
-    tids = λ name tid lives. tids_found at.pages.held at.pages.slots at.catalog.listing fits only allowed sound name tid (lives_alone name tid lives);
+    tids = λ name tid lives. tids_found at.pages.held at.pages.slots at.catalog.listing fits heaps allowed sound name tid (lives_alone name tid lives);
   }
 
+  found_low : AreLow at.pages.held
+  found_low key there = low_number key.space (allowed key there).number
+    where
+      low_number : {n : ℕ} (space : Space) → n < number_limit at.pages.slots space → n < 4294967295
+      low_number Home low = omega (arith, low, small)
+      low_number Overflow low = omega (arith, low, small)
+      low_number Image low = omega (arith, low, small)
+      low_number System low = omega (arith, low)
+
   found_sound : AreSound at tables
-  found_sound = images tables found_shows
+  found_sound = images_shown small found_low found_shows images
 
   found_images : SpellsImages at.pages.held at.catalog.listing tables
   found_images = record {
@@ -356,8 +409,8 @@ module _ (at : AccessView) (small : at.pages.slots < 4294967296) (fits : Listing
   found_spells : SpellsTables at.pages.held at.catalog.listing tables
   found_spells = record {
     only = only;
-    formed = formed_found at.pages.held at.pages.slots at.catalog.listing fits only allowed sound;
-    linked = linked_found at.pages.held at.pages.slots at.catalog.listing fits only allowed sound;
+    formed = formed_found at.pages.held at.pages.slots at.catalog.listing fits heaps allowed sound;
+    linked = linked_found at.pages.held at.pages.slots at.catalog.listing fits heaps allowed sound;
     listed = fits;
     defines = found_shows.defines;
     counts = found_shows.counts;
@@ -366,22 +419,16 @@ module _ (at : AccessView) (small : at.pages.slots < 4294967296) (fits : Listing
   }
 
   found_nodes : AreNodesWithin at.pages.slots at.pages.held at.catalog.listing
-  found_nodes = all_within (λ key there. low_number key.space (allowed key there).number) fits found_images
+  found_nodes = all_within found_low fits found_images
       (λ number image relation listed. let one = found_sound.each number image relation listed in record { pages = one.pages; spells = one.spells; within = one.within })
-    where
-      low_number : {n : ℕ} (space : Space) → n < number_limit at.pages.slots space → n < 4294967295
-      low_number Home low = omega (arith, low, small)
-      low_number Overflow low = omega (arith, low, small)
-      low_number Image low = omega (arith, low, small)
-      low_number System low = omega (arith, low)
 
   found_fit : Fits at.pages.slots tables
   found_fit = record {
     definitions = listing_fits fits found_shows.defines;
     tuples = found_shows.tuples;
     tids = found_shows.tids;
-    alone = λ one other tid first second. alone_found at.pages.held at.pages.slots at.catalog.listing fits only allowed sound one other tid (lives_alone one tid first) (lives_alone other tid second);
-    few = λ name. let few = few_found at.pages.held at.pages.slots at.catalog.listing fits only allowed sound name in omega (arith, few, count_same name);
+    alone = λ one other tid first second. alone_found at.pages.held at.pages.slots at.catalog.listing fits heaps allowed sound one other tid (lives_alone one tid first) (lives_alone other tid second);
+    few = λ name. let few = few_found at.pages.held at.pages.slots at.catalog.listing fits heaps allowed sound name in omega (arith, few, count_same name);
     keys = keys_single fits found_shows.defines (λ number image relation listed. (found_sound.each number image relation listed).single);
     links = found_chains.spells.links;
     only = λ item there. has_content item (found_chains.spells.contents.only item there);

@@ -10,7 +10,10 @@ pub mod Made
 pub mod Rows
 pub mod Found
 pub mod Census
-pub mod DifferentKeys
+pub mod SameHeld
+pub mod FirstWrong
+pub mod Marks
+pub mod SpelledPaths
 pub mod LookedImages
 pub mod LookedLinks
 pub mod Looked
@@ -19,3 +22,7 @@ pub mod SegmentFirst
 pub mod SegmentsFirst
 pub mod Completing
 pub mod TupleFaults
+pub mod PathFaults
+pub mod NamedImages
+pub mod NamedLinks
+pub mod LookedThrough

@@ -1,5 +1,5 @@
 -- How a look through all pages of a store ends.
-use Rattle.std.proofs.Common.{◌≡◌, ◌⊎◌, inl, inr, ℕ, zero, suc, ◌+◌, ◌-◌, ◌*◌, ◌<◌, ◌≤◌, Bool, true, false, cond, refl, sym, ◌∙◌, ap, subst, arith}
+use Rattle.std.proofs.Common.{◌≡◌, inl, inr, ℕ, zero, suc, ◌+◌, ◌-◌, ◌*◌, ◌<◌, ◌≤◌, Bool, true, false, cond, refl, sym, ◌∙◌, ap, subst, arith}
 use Rattle.std.specs.Prelude.{Result, Ok, Err, Option, Some, None, IfSome, IfNone, is_some, nat_lt}
 use Rattle.std.proofs.lemmas.Bool.{cases_eq, true≢false}
 use Rattle.rss_base.specs.DiskRule.{Pages, IsTold}
@@ -10,12 +10,12 @@ use Rattle.rss_base.specs.Steps.{PagesView, Keys, no_page}
 use Rattle.rss_base.specs.Looking.{ChecksPages}
 use Rattle.rss_base.specs.Listings.{Listing, ListingFits, segment_at}
 use Rattle.rss_base.specs.declared.place.Place.{Place}
-use Rattle.rss_base.specs.declared.place.Place.TheVariants.{Room, Page as PagePlace, Link as LinkPlace}
+use Rattle.rss_base.specs.declared.place.Place.TheVariants.{Room, Page as PagePlace}
 use Rattle.rss_base.specs.declared.fault.PageFault.{PageFault}
 use Rattle.rss_base.specs.declared.fault.PageFault.TheVariants.{Device as DeviceFailed}
 use Rattle.rss_base.specs.declared.key.PageKey.{PageKey}
 use Rattle.rss_base.specs.declared.key.Space.{Space}
-use Rattle.rss_base.specs.declared.key.Space.TheVariants.{System}
+use Rattle.rss_base.specs.declared.key.Space.TheVariants.{Home, Overflow, Image as ImageSpace, System}
 use Rattle.rss_base.proofs.Looking.{checks_none, checks_then, checks_within, checks_as}
 use Rattle.rss_page.specs.Slotted.{IsHeapKey}
 use Rattle.rss_tuple.specs.Directory.{homes, overflows}
@@ -23,7 +23,7 @@ use Rattle.rss_tuple.specs.Heaps.{AreLinked, AreHeaps}
 use Rattle.rss_tuple.specs.Checked.{pages_of, IsNoted, AreNoted}
 use Rattle.rss_catalog.specs.Catalogs.{CatalogView, Loads, IsCatalogPlace}
 use Rattle.rss_catalog.specs.Defined.{HasFewTuples, LoadsDefined, NamesFirst}
-use Rattle.rss_catalog.proofs.Completed.{catalog_fits, stored_same, stored_image, stored_link}
+use Rattle.rss_catalog.proofs.Completed.{catalog_fits, stored_same}
 use Rattle.rss_catalog.proofs.Same.{fits_no_flaw}
 use Rattle.rss_model.specs.Tables.{Tables}
 use Rattle.rss_model.specs.Fits.{Fits}
@@ -32,18 +32,19 @@ use Rattle.rss_access.proofs.Looking.{heaps_looked}
 use Rattle.rss_stored.specs.Store.{IsStorePage, SpellsTables, AreNodesWithin}
 use Rattle.rss_model.proofs.LogLists.{some_of}
 use Rattle.rss_stored.proofs.Relisted.{number_within_list}
-use Rattle.rss_check.specs.Checks.{IsSegmentOf, ChecksSegment, MissesSegment, ChecksSegments, MissesOne, IsForeign, MissesTuples, ChecksLinks, MissesLinks, ChecksImages, MissesImages}
+use Rattle.rss_check.specs.Checks.{IsSegmentOf, ChecksSegment, MissesSegment, ChecksSegments, MissesOne, IsForeign, MissesTuples, AreListed, ChecksLinks}
+use Rattle.rss_check.specs.Rows.{HasImages}
 use Rattle.rss_check.specs.Faults.{IsFirstFault}
 use Rattle.rss_check.specs.Passed.{IsViewOf, PassesTuples}
 use Rattle.rss_check.specs.Lines.{HeapPages, IsFirst, IsLeast, AreUnbroken, IsFirstIfAny}
 use Rattle.rss_check.specs.Tuples.{BreaksIn, BreaksTuples, BreaksAt, BreaksOf, IsFirstMapped, rank_of, earlier_of}
 use Rattle.rss_check.proofs.TupleFaults.{tuple_fault, tuples_pass, few_loaded}
 use Rattle.rss_check.proofs.SegmentFirst.{unlisted_unbroken, unlisted_least}
-use Rattle.rss_check.proofs.SegmentsFirst.{BreaksBelow, pages_more, first_more, first_past, page_first, first_none, first_all}
+use Rattle.rss_check.proofs.SegmentsFirst.{BreaksBelow, heap_segment, pages_more, first_more, first_past, page_first, first_none, first_all}
 use Rattle.rss_check.specs.Looks.{FindsTables, FindsNone, HoldsNone, AreAllNoted}
-use Rattle.rss_check.proofs.Found.{heap_listed, linked_found, holds_found, spelled_segment, shows_spelled, sound_spelled, links_spelled}
-use Rattle.rss_check.proofs.LookedImages.{tuples_same, all_same}
+use Rattle.rss_check.proofs.Found.{linked_found, holds_found, spelled_segment}
 use Rattle.rss_check.proofs.LookedLinks.{link_same}
+use Rattle.rss_check.proofs.SameHeld.{held_back}
 
 -- ---- pages of no segment that is listed
 
@@ -92,6 +93,7 @@ pub record LookedAt (listing : Listing) (number : ℕ) (wrong : Option Place) (o
   pub misses : IfSome wrong (MissesOne listing old)
   pub pages : IsTold old.disk → (place : Place) → BreaksBelow number old.held old.slots listing HeapPages place → ⊥
   pub first : IsTold old.disk → HasFewTuples listing → IsFirstIfAny (BreaksBelow number old.held old.slots listing) wrong
+  pub listed : (key : PageKey) → IsHeapKey key → key.segment < number → old.mapped key ≡ true → is_some (segment_at listing key.segment) ≡ true
 
 -- each page that is there is mapped
 abbrev pub HoldsMapped : PagesView → Type 0
@@ -147,6 +149,7 @@ looked_none listing view fits holds allowed = record {
   misses = tt;
   pages = λ told place is. none told HeapPages place is;
   first = λ told few. none told;
+  listed = λ key heap low there. let within = heap_segment key heap (allowed key there).segment in absurd (omega (arith, low, within.0));
 }
   where
     none : IsTold view.disk → AreUnbroken (BreaksBelow 1 view.held view.slots listing)
@@ -158,7 +161,7 @@ module _ {listing : Listing} {number : ℕ} {wrong : Option Place} {old mid : Pa
 
   -- what holds of the pages held of them from before on
   held_before : IsTold old.disk → (P : Held → ℕ → Type 0) → P mid.held mid.slots → P old.held old.slots
-  held_before told P is = subst (λ (h : Held). P h old.slots) (so.did.looks.held told) (subst (P mid.held) so.did.looks.step.passes.slots is)
+  held_before = held_back so.did
 
   held_after : IsTold old.disk → (P : Held → ℕ → Type 0) → P old.held old.slots → P mid.held mid.slots
   held_after told P is = subst (λ (h : Held). P h mid.slots) (sym (so.did.looks.held told)) (subst (P old.held) (sym so.did.looks.step.passes.slots) is)
@@ -177,6 +180,10 @@ module _ {listing : Listing} {number : ℕ} {wrong : Option Place} {old mid : Pa
     misses = so.misses;
     pages = λ told place is. pages_more (so.pages told) (λ at. gone_before told fits none holds gone HeapPages at) place is;
     first = λ told few. first_past wrong (so.first told few) (gone_before told fits none holds gone);
+    listed = λ key heap low there. elim (cases_eq key.segment number) [
+      | inl here ↦ absurd (gone key (here, heap) (ap (λ (m : Mapped). m key) so.did.looks.mapped ∙ there))
+      | inr other ↦ so.listed key heap (omega (arith, low, other)) there
+    ];
   }
 
   pub misses_one : {place : Place} → is_some (segment_at listing number) ≡ true → MissesSegment listing number mid place → MissesOne listing old place
@@ -233,6 +240,10 @@ module _ {listing : Listing} {number : ℕ} {wrong : Option Place} {old mid : Pa
       misses = earlier_some (MissesOne listing old) wrong found so.misses (some_weaker found (λ place. misses_one there) misses);
       pages = λ told place is. pages_more (so.pages told) (here told) place is;
       first = λ told few. first_more (so.pages told) (here told) wrong found (so.first told few) (held_before told (λ h n. IsFirstIfAny (BreaksIn h n listing number) found) (first (told_mid told) few));
+      listed = λ key heap low mapped. elim (cases_eq key.segment number) [
+        | inl same ↦ ap (λ (n : ℕ). is_some (segment_at listing n)) same ∙ there
+        | inr other ↦ so.listed key heap (omega (arith, low, other)) mapped
+      ];
     }
       where
         here : IsTold old.disk → (place : Place) → BreaksIn old.held old.slots listing number HeapPages place → ⊥
@@ -245,17 +256,15 @@ looked_all {listing = listing} fits all so segment there =
     let within = number_within_list listing.segments segment name.0 name.1 in
     so.checks segment (omega (arith, within.1, fits.segment_places)) there
 
+-- the pages of tuples are those of segments that are listed
+pub listed_looked : {listing : Listing} {number : ℕ} {wrong : Option Place} {old now : PagesView} → 9 ≤ number → MapsKeys old → LookedAt listing number wrong old now → AreListed IsHeapKey listing old.mapped
+listed_looked all allowed so key heap there =
+    let within = heap_segment key heap (allowed key there).segment in
+    so.listed key heap (omega (arith, all, within.1)) there
+
 -- this is wrong first in all of them, if anything is
 pub first_looked : {listing : Listing} {number : ℕ} {wrong : Option Place} {old now : PagesView} → ListingFits listing → 9 ≤ number → HoldsMapped old → MapsKeys old → LookedAt listing number wrong old now → IsTold old.disk → HasFewTuples listing → IsFirstIfAny (BreaksOf old listing) wrong
 first_looked {wrong = wrong} {old = old} fits all holds allowed so told few = first_all old.held fits (held_keys old holds allowed told) (omega (arith, all)) wrong (so.first told few)
-
--- ---- the same pages are there
-
-pub mapped_back : {T : Type 0} {noted : Keys} {asks : ℕ} {old new : PagesView} {result : Result T PageFault} → ChecksPages noted asks old new result → (key : PageKey) → new.mapped key ≡ true → old.mapped key ≡ true
-mapped_back did key there = ap (λ (m : Mapped). m key) (sym did.looks.mapped) ∙ there
-
-pub only_before : {T : Type 0} {noted : Keys} {asks : ℕ} {old new : PagesView} {result : Result T PageFault} {P : PageKey → Type 0} → ChecksPages noted asks old new result → ((key : PageKey) → new.mapped key ≡ true → P key) → (key : PageKey) → old.mapped key ≡ true → P key
-only_before did only key there = only key (ap (λ (m : Mapped). m key) did.looks.mapped ∙ there)
 
 -- ---- looks at the same pages, behind that at the segments
 
@@ -293,21 +302,6 @@ none_loaded old catalog image link loads told none listing tables system spells 
     let same = sym (stored_same old catalog image link loads told listing system spells.listed) in
     none tables (subst (λ (l : Listing). SpellsTables old.held l tables) same spells) (subst (AreNodesWithin old.slots old.held) same nodes) fit
 
--- nothing was named
-pub none_there : (o : Option ℕ) → ((n : ℕ) → o ≡ Some n → ⊥) → o ≡ None
-none_there None not = refl
-none_there (Some n) not = absurd (not n refl)
-
--- an image has no levels, or a link has an end that is none
-pub none_completed : {old : PagesView} {place : Place} (catalog : CatalogView) (image link : Option ℕ) → LoadsDefined old catalog image link → (number : ℕ) → (image ≡ Some number) ⊎ (link ≡ Some number) → (place ≡ Room → ⊥) → FindsNone old place
-none_completed {old = old} catalog image link loads number wrong elsewhere = record {
-  none = λ told listing tables system spells nodes fit. elim wrong [
-    | inl is ↦ stored_image old catalog image link loads told listing system spells.listed number is
-    | inr is ↦ stored_link old catalog image link loads told listing system spells.listed number is
-  ];
-  elsewhere = λ told. elsewhere;
-}
-
 -- there is a page that no store with these definitions has
 pub none_foreign : {old : PagesView} {catalog : CatalogView} {image link : Option ℕ} → HoldsMapped old → LoadsDefined old catalog image link → {place : Place} (key : PageKey) → old.mapped key ≡ true → (IsStorePage catalog.listing key → ⊥) → (place ≡ Room → ⊥) → FindsNone old place
 none_foreign {old} {catalog} {image} {link} holds loads key is foreign elsewhere = record {
@@ -323,7 +317,7 @@ module _ {T : Type 0} {old mid : PagesView} {catalog : CatalogView} {image link 
 
   -- what holds of the pages held of them from before on
   held_then : IsTold old.disk → (P : Held → ℕ → Type 0) → P mid.held mid.slots → P old.held old.slots
-  held_then told P is = subst (λ (h : Held). P h old.slots) (did.looks.held told) (subst (P mid.held) did.looks.step.passes.slots is)
+  held_then = held_back did
 
   -- so of a page that no store with these definitions has
   pub none_met : {place : Place} → IsForeign catalog.listing mid place → FindsNone old place
@@ -344,6 +338,9 @@ module _ {T : Type 0} {old mid : PagesView} {catalog : CatalogView} {image link 
 
   pub passed_then : (IsTold mid.disk → HasFewTuples catalog.listing → AreUnbroken (BreaksOf mid catalog.listing)) → IsTold old.disk → (pages : Pages) → IsViewOf pages old → PassesTuples pages catalog image link
   passed_then here told pages of = tuples_pass of loads told (held_then told (λ h n. AreUnbroken (BreaksTuples h n catalog.listing)) (here (told_then told) (few_loaded loads)))
+
+  pub listed_then : AreListed IsHeapKey catalog.listing mid.mapped → AreListed IsHeapKey catalog.listing old.mapped
+  listed_then = subst (AreListed IsHeapKey catalog.listing) did.looks.mapped
 
   pub segments_then : {seen : PagesView} → ChecksSegments catalog.listing mid seen → ChecksSegments catalog.listing old seen
   segments_then checks segment there = record {
@@ -371,37 +368,24 @@ module _ {U : Type 0} {asks : ℕ} {old seen : PagesView} {catalog : CatalogView
   told_back : IsTold seen.disk → IsTold old.disk
   told_back told = did.looks.step.passes.leaves.told.1 told
 
-  slots_seen : seen.slots ≡ old.slots
-  slots_seen = did.looks.step.passes.slots
-
   held_seen : IsTold old.disk → seen.held ≡ old.held
   held_seen told = did.looks.held told
 
-  -- a link has no chains
-  pub none_linked : {place : Place} → old.slots < 4294967296 → (IsTold seen.disk → MissesLinks (both seen catalog) place) → FindsNone old place
-  none_linked small misses = record {
-    none = λ told. none_loaded old catalog image link loads told (λ tables spells nodes fit.
-        let one = misses (told_seen told) in
-        one.is_not (link_same catalog (held_seen told) (links_spelled {at = both old catalog} spells fit small one.number one.link one.listed)));
-    elsewhere = λ told room. let at : LinkPlace (misses (told_seen told)).number ≡ Room = sym (misses (told_seen told)).named ∙ room in absurd (cc);
-  }
-
-  -- all have
+  -- each link has its chains
   pub links_old : (IsTold seen.disk → ChecksLinks (both seen catalog)) → IsTold old.disk → ChecksLinks (both old catalog)
   links_old checks told number link at = link_same catalog (sym (held_seen told)) (checks (told_seen told) number link at)
 
-  -- an image isn't in form
-  pub none_imaged : {place : Place} → (IsTold seen.disk → MissesImages (both seen catalog) place) → FindsNone old place
-  none_imaged misses = record {
-    none = λ told. none_loaded old catalog image link loads told (λ tables spells nodes fit.
-        (misses (told_seen told)).is_not tables (tuples_same {old = old} {new = seen} catalog slots_seen (held_seen told) (shows_spelled {at = both old catalog} spells fit))
-        (all_same {old = old} {new = seen} catalog slots_seen (held_seen told) (sound_spelled {at = both old catalog} spells fit nodes)));
-    elsewhere = λ told. (misses (told_seen told)).elsewhere;
-  }
+  -- each image has its rows
+  pub images_old : (IsTold seen.disk → HasImages seen.held seen.slots catalog.listing) → IsTold old.disk → HasImages old.held old.slots catalog.listing
+  images_old has told = held_back did told (λ h n. HasImages h n catalog.listing) (has (told_seen told))
 
-  module _ (small : old.slots < 4294967296) (only : (key : PageKey) → old.mapped key ≡ true → IsStorePage catalog.listing key) (checks : ChecksSegments catalog.listing old seen) where
-    only_held : IsTold old.disk → (key : PageKey) → is_some (old.held key) ≡ true → IsStorePage catalog.listing key
-    only_held told key is = only key (sym (holds told key) ∙ is)
+  -- their pages are those of segments that are listed
+  pub pages_old : {kind : Keys} → AreListed kind catalog.listing seen.mapped → AreListed kind catalog.listing old.mapped
+  pages_old {kind} = subst (AreListed kind catalog.listing) did.looks.mapped
+
+  module _ (listed : AreListed IsHeapKey catalog.listing old.mapped) (checks : ChecksSegments catalog.listing old seen) where
+    listed_held : IsTold old.disk → (key : PageKey) → IsHeapKey key → is_some (old.held key) ≡ true → is_some (segment_at catalog.listing key.segment) ≡ true
+    listed_held told key heap is = listed key heap (sym (holds told key) ∙ is)
 
     sound_old : IsTold old.disk → (segment : ℕ) → is_some (segment_at catalog.listing segment) ≡ true → IsSegmentOf old.held old.slots catalog.listing segment
     sound_old told segment there = (checks segment there).is told
@@ -413,18 +397,25 @@ module _ {U : Type 0} {asks : ℕ} {old seen : PagesView} {catalog : CatalogView
     heaps_old told = record {
       formed = λ key bytes heap is.
           let was : old.held key ≡ Some bytes = ap (λ (h : Held). h key) (sym (held_seen told)) ∙ is in
-          (noted_seen told key.segment (heap_listed old.held catalog.listing (only_held told) key heap (ap is_some was)) key bytes (refl, heap) is).heap;
+          (noted_seen told key.segment (listed_held told key heap (ap is_some was)) key bytes (refl, heap) is).heap;
       linked = λ segment. subst (λ (h : Held). AreLinked (homes h segment) (overflows h segment)) (sym (held_seen told))
-          (linked_found old.held old.slots catalog.listing (catalog_fits old catalog image link loads) (only_held told) (held_keys old holds allowed told) (sound_old told) segment);
+          (linked_found old.held old.slots catalog.listing (catalog_fits old catalog image link loads) (listed_held told) (held_keys old holds allowed told) (sound_old told) segment);
     }
 
     pub heaps_seen : IsTold seen.disk → AreHeaps seen
     heaps_seen told = heaps_old (told_back told)
 
-    module _ {V : Type 0} {most : ℕ} {new : PagesView} {third : Result V PageFault} (did_last : ChecksPages no_page most seen new third) (chains : IsTold old.disk → ChecksLinks (both old catalog)) (images : IsTold seen.disk → ChecksImages (both seen catalog)) where
-      images_old : IsTold old.disk → ChecksImages (both old catalog)
-      images_old told tables shows =
-          all_same catalog (sym slots_seen) (sym (held_seen told)) (images (told_seen told) tables (tuples_same catalog slots_seen (held_seen told) shows))
+    module _ {V : Type 0} {most : ℕ} {new : PagesView} {third : Result V PageFault} (did_last : ChecksPages no_page most seen new third) (small : old.slots < 4294967296) (pages : AreListed (λ key. key.space ≡ ImageSpace) catalog.listing old.mapped)
+        (chains : IsTold old.disk → ChecksLinks (both old catalog)) (images : IsTold old.disk → HasImages old.held old.slots catalog.listing) where
+      -- each page is one that a store may have
+      only : (key : PageKey) → old.mapped key ≡ true → IsStorePage catalog.listing key
+      only key there = by key.space refl
+        where
+          by : (space : Space) → key.space ≡ space → IsStorePage catalog.listing key
+          by Home is = inr (listed key (inl is) there)
+          by Overflow is = inr (listed key (inr is) there)
+          by ImageSpace is = inr (pages key is there)
+          by System is = inl is
 
       noted_now : IsTold old.disk → AreAllNoted catalog.listing new
       noted_now told segment there key bytes page is =
@@ -436,7 +427,7 @@ module _ {U : Type 0} {asks : ℕ} {old seen : PagesView} {catalog : CatalogView
       finds_tables loaded = record {
         loaded = loaded;
         only = only;
-        holds = λ told. holds_found (both old catalog) small loaded.fits (only_held told) (held_keys old holds allowed told) (sound_old told) (chains told) (images_old told) (loaded.holds told);
+        holds = λ told. holds_found (both old catalog) small loaded.fits (λ key is. only key (sym (holds told key) ∙ is)) (held_keys old holds allowed told) (sound_old told) (chains told) (images told) (loaded.holds told);
         heaps = λ told. heaps_looked did_last.looks.step (told_seen told) (heaps_old told);
         noted = noted_now;
       }

@@ -17,12 +17,12 @@ use Rattle.rss_base.specs.StoredPages.{held_at, mapped_by}
 use Rattle.rss_base.specs.Steps.{PagesView}
 use Rattle.rss_base.specs.Listings.{Listing, ListingFits, HoldsListing, numbered, segment_at, relation_at, link_at, relations_of_page}
 use Rattle.rss_base.specs.declared.key.PageKey.{PageKey}
-use Rattle.rss_base.specs.declared.key.Space.TheVariants.{Home, Overflow, Image as ImageSpace, System}
+use Rattle.rss_base.specs.declared.key.Space.TheVariants.{Home, Overflow, System}
 use Rattle.rss_base.specs.declared.log_record.LogRecord.{LogRecord}
 use Rattle.rss_base.specs.declared.name.Name.{Name}
 use Rattle.rss_base.specs.declared.place.Place.{Place}
+use Rattle.rss_base.specs.declared.place.Place.TheVariants.{Page as PagePlace, Image as ImagePlace, Link as LinkPlace}
 use Rattle.rss_base.specs.declared.relation.RelationEntry.{RelationEntry}
-use Rattle.rss_base.specs.declared.image.ImageEntry.{ImageEntry}
 use Rattle.rss_base.specs.declared.link.LinkEntry.{LinkEntry}
 use Rattle.rss_base.specs.declared.root.Root.{Root}
 use Rattle.rss_base.specs.declared.tid.Tid.{Tid}
@@ -49,27 +49,25 @@ use Rattle.rss_model.specs.Restart.{FitWith, UndoFits, Lone, LoneAlong}
 use Rattle.rss_model.specs.Tables.{Contents, Tables, tuple_count}
 use Rattle.rss_model.proofs.LogLists.{all_front, all_back}
 use Rattle.rss_model.proofs.Mixing.{In, each_of}
-use Rattle.rss_stored.specs.Store.{Stored, IsStore, HasLog, SpellsTables, IsStorePage, IsListedImage, held_in as held_of_store, listed_at, meter_of}
+use Rattle.rss_stored.specs.Store.{Stored, IsStore, HasLog, SpellsTables, IsStorePage, held_in as held_of_store, listed_at, meter_of}
 use Rattle.rss_stored.proofs.ChainsOnce.{spells_once}
 use Rattle.rss_stored.proofs.LogPlaced.{bytes_append, entries_append}
 use Rattle.rss_stored.proofs.Stores.{one_root, one_map, sound_unbroken}
 use Rattle.rss_entries.proofs.Orders.{in_contains}
 use Rattle.rss_access.specs.Bodies.{is_body}
 use Rattle.rss_access.specs.Changes.{AccessView, both}
-use Rattle.rss_access.specs.Checking.{ShowsTuples, IsSound}
-use Rattle.rss_check.specs.Checks.{count_of, IsSegmentOf, AreSound}
+use Rattle.rss_check.specs.Checks.{count_of, IsSegmentOf}
 use Rattle.rss_check.specs.Layouts.{Laid, held_in}
 use Rattle.rss_check.specs.Spellings.{AreSuited, Spelling, held_of}
-use Rattle.rss_check.specs.Rows.{HasLists}
 use Rattle.rss_check.specs.Logs.{IsRead, IsOver}
-use Rattle.rss_check.specs.Lines.{Line}
+use Rattle.rss_check.specs.Lines.{Line, Images, Reached, Links}
 use Rattle.rss_check.specs.Faults.{IsHeapPage, Breaks, layout, unmapped, undefined, heap_page, entry, unled, count, image, unused, link, no_record, marks, shared, no_way, no_room, StoresHaveNone}
+use Rattle.rss_check.specs.Tuples.{BreaksPaths, image_in, unused_in, link_in}
 use Rattle.rss_check.proofs.Bared.{AllSay, bared, bytes_twice, lists_twice, along_twice, lone_at, long_twice, of_twice, changes_twice, changes_of_twice}
-use Rattle.rss_check.proofs.Found.{spelled_segment, links_spelled, shows_spelled, sound_spelled}
+use Rattle.rss_check.proofs.Found.{spelled_segment}
 use Rattle.rss_check.proofs.Laying.{allowed_in}
-use Rattle.rss_access.specs.Rows.{HasRows}
+use Rattle.rss_check.proofs.SpelledPaths.{none_paths}
 use Rattle.rss_access.proofs.AsMany.{contains_in}
-use Rattle.rss_access.proofs.RowsHad.{rows_had}
 
 -- ---- pages that only hold
 
@@ -193,44 +191,8 @@ module _ {pages : Pages} {stored : Stored} (store : IsStore pages stored) where
 
   -- ---- its images and links
 
-  abbrev view : AccessView
-  view = still_at held slots listing
-
-  shows : ShowsTuples view tables
-  shows = shows_spelled {at = view} store.spells store.fit
-
-  sound : AreSound view tables
-  sound = sound_spelled {at = view} store.spells store.fit store.nodes
-
-  image_rows : (number : ℕ) (image : ImageEntry) (relation : RelationEntry) (listed : IsListedImage listing number image relation) → HasRows held slots listing number image relation (sound.each number image relation listed).pages
-  image_rows number of relation listed = rows_had {at = view} small shows listed (sound.each number of relation listed)
-
-  -- a page of images has an owner
-  record IsOwned (key : PageKey) : Type 0 where
-    number : ℕ
-    image : ImageEntry
-    relation : RelationEntry
-    nodes : List ℕ
-    listed : IsListedImage listing number image relation
-    rows : HasRows held slots listing number image relation nodes
-    segment : key.segment ≡ relation.segment
-    among : Contains nodes key.number
-
-  owned : (key : PageKey) → key.space ≡ ImageSpace → is_some (held key) ≡ true → IsOwned key
-  owned key space there =
-      let one = store.spells.images.reached key space there in
-      let its : IsSound view tables one.number one.image one.relation = record {
-        pages = one.pages;
-        spells = one.spells;
-        within = λ page node among. store.nodes one.number one.image one.relation one.at page node;
-        single = (sound.each one.number one.image one.relation one.at).single;
-      } in
-      record { number = one.number; image = one.image; relation = one.relation; nodes = one.pages; listed = one.at; rows = rows_had {at = view} small shows one.at its; segment = one.segment; among = one.among }
-
-  link_lists : (number : ℕ) (link : LinkEntry) → link_at listing number ≡ Some link → HasLists held listing number link
-  link_lists number of at =
-      let has = links_spelled {at = view} store.spells store.fit small number of at in
-      record { lists = has.chains.lists; spells = has.chains.spells; no_ends = has.no_ends }
+  paths_right : {line : Line} {place : Place} → BreaksPaths held slots listing line place → ⊥
+  paths_right is = none_paths (still_at held slots listing) small store.spells store.fit store.nodes is
 
   -- ---- what a check reads is what it has
 
@@ -376,15 +338,9 @@ module _ {pages : Pages} {stored : Stored} (store : IsStore pages stored) where
   none_breaks (unled at segment page slot some none) = none (moved at (λ h n l. overflows h segment page slot ≢ Empty → IsLed (homes h segment) page slot) ((store.spells.linked segment).led page slot) some)
   none_breaks (count at number relation listed none) =
       none (moved at (λ h n l. relation_at l number ≡ Some relation → count_of number (tuples_of h relation.segment n) ≡ relation.live) (λ is. ((segment_sound relation.segment).counts number relation is refl).0) listed)
-  none_breaks (image at number of relation listed none) =
-      let has = moved at (λ h n l. IsListedImage l number of relation → (nodes : List ℕ) × HasRows h n l number of relation nodes) (λ is. ((sound.each number of relation is).pages, image_rows number of relation is)) listed in
-      none has.0 has.1
-  none_breaks (unused at key space there none) =
-      let one = owned key space (moved_back at (λ h n l. is_some (h key) ≡ true) there) in
-      none one.number one.image one.relation one.nodes
-      (moved at (λ h n l. IsListedImage l one.number one.image one.relation) one.listed)
-      (moved at (λ h n l. HasRows h n l one.number one.image one.relation one.nodes) one.rows) one.segment one.among
-  none_breaks (link at number of listed none) = none (moved at (λ h n l. link_at l number ≡ Some of → HasLists h l number of) (link_lists number of) listed)
+  none_breaks (image at number of relation listed none) = paths_right (moved_back at (λ h n l. BreaksPaths h n l Images (ImagePlace number)) (image_in number of relation listed none))
+  none_breaks (unused at key space there none) = paths_right (moved_back at (λ h n l. BreaksPaths h n l Reached (PagePlace key)) (unused_in key space there none))
+  none_breaks (link at number of listed none) = paths_right (moved_back at (λ h n l. BreaksPaths h n l Links (LinkPlace number)) (link_in number of listed none))
   none_breaks (no_record laid position front rest early placed is none) =
       let its = laid_parses laid in
       let next = next_record laid.root.head position laid.root.end front (as_bytes (stored.older ++ stored.newer)) rest placed its.placed (sym its.spells ∙ is) early in

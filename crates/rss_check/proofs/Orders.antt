@@ -9,7 +9,7 @@ use Rattle.rss_base.specs.PageMap.{space_code}
 use Rattle.rss_base.specs.Paged.{page_key}
 use Rattle.rss_base.specs.Tids.{IsBelow}
 use Rattle.rss_base.specs.declared.key.PageKey.{PageKey}
-use Rattle.rss_base.specs.declared.key.Space.TheVariants.{Overflow}
+use Rattle.rss_base.specs.declared.key.Space.TheVariants.{Overflow, Image as ImageSpace}
 use Rattle.rss_base.specs.declared.place.Place.{Place}
 use Rattle.rss_base.specs.declared.place.Place.TheVariants.{Page as PagePlace, Tuple as TuplePlace}
 use Rattle.rss_base.specs.declared.tid.Tid.{Tid}
@@ -86,6 +86,17 @@ page_before segment a b of_a of_b before = elim (before_three a.segment (space_c
   | inr rest ↦ elim rest.1 [
     | inl less ↦ spaces_less a b of_a.1 of_b.1 less
     | inr last ↦ inr (spaces_same a b of_a.1 of_b.1 last.0, last.1)
+  ]
+]
+
+-- pages of images are in the order of their segments, and then of their numbers
+pub image_before : (a b : PageKey) → a.space ≡ ImageSpace → b.space ≡ ImageSpace → ComesBefore (PagePlace a) (PagePlace b)
+    → (a.segment < b.segment) ⊎ ((a.segment ≡ b.segment) × (a.number < b.number))
+image_before a b one other before = elim (before_three a.segment (space_code a.space) a.number b.segment (space_code b.space) b.number before) [
+  | inl less ↦ inl less
+  | inr rest ↦ elim rest.1 [
+    | inl less ↦ absurd (omega (arith, less, ap space_code one, ap space_code other))
+    | inr last ↦ inr (rest.0, last.1)
   ]
 ]
 

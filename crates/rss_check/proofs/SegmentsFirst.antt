@@ -25,7 +25,7 @@ pub record BreaksBelow (number : ℕ) (held : Held) (slots : ℕ) (listing : Lis
   pub breaks : BreaksIn held slots listing segment line place
 
 -- the segment of a page of tuples that a map may name
-heap_segment : (key : PageKey) → IsHeapKey key → IsSegmentOf key.space key.segment → (1 ≤ key.segment) × (key.segment ≤ segments)
+pub heap_segment : (key : PageKey) → IsHeapKey key → IsSegmentOf key.space key.segment → (1 ≤ key.segment) × (key.segment ≤ segments)
 heap_segment key (inl home) is = subst (λ (s : Space). IsSegmentOf s key.segment) home is
 heap_segment key (inr over) is = subst (λ (s : Space). IsSegmentOf s key.segment) over is
 

@@ -53,7 +53,7 @@ module _ {pages : Pages} (at other : Spelling pages) where
       (subst (λ (h : Held). HoldsListing h other.listing) (sym (held_once at.laid other.laid)) other.is.spells) at.is.listable other.is.listable
 
   -- what holds of one reading holds of the other
-  moved : (P : Held → ℕ → Listing → Type 0) → P (held_of pages other) other.laid.root.slots other.listing → P (held_of pages at) at.laid.root.slots at.listing
+  pub moved : (P : Held → ℕ → Listing → Type 0) → P (held_of pages other) other.laid.root.slots other.listing → P (held_of pages at) at.laid.root.slots at.listing
   moved P is = subst (P (held_of pages at) at.laid.root.slots) (sym same_listing)
       (subst (λ (r : Root). P (held_of pages at) r.slots other.listing) (sym (roots_once at.laid other.laid))
       (subst (λ (h : Held). P h other.laid.root.slots other.listing) (sym (held_once at.laid other.laid)) is))

@@ -1,29 +1,25 @@
--- What an opening finds in the pages of one segment.
+-- What an opening finds in the pages of one segment, and of links.
 use Rattle.std.specs.Prelude.{◌≡◌, ◌⊎◌, ◌==◌, ℕ, ◌^◌, ◌-◌, ◌≤◌, Bool, true, false, Some, None, is_some, min, List, [], ◌∷◌, length, count_by, slice_index_or}
 use Rattle.rss_base.specs.DiskRule.{IsTold}
 use Rattle.rss_base.specs.Sizes.{relations_most}
-use Rattle.rss_base.specs.Steps.{PagesView}
-use Rattle.rss_base.specs.Paged.{Held}
+use Rattle.rss_base.specs.Steps.{PagesView, Keys}
+use Rattle.rss_base.specs.Paged.{Held, Mapped}
 use Rattle.rss_base.specs.Listings.{Listing, segment_at, relation_at, link_at}
-use Rattle.rss_base.specs.declared.image.ImageEntry.{ImageEntry}
 use Rattle.rss_base.specs.declared.link.LinkEntry.{LinkEntry}
 use Rattle.rss_base.specs.declared.relation.RelationEntry.{RelationEntry}
 use Rattle.rss_base.specs.declared.key.PageKey.{PageKey}
-use Rattle.rss_base.specs.declared.key.Space.TheVariants.{Image as ImageSpace}
 use Rattle.rss_base.specs.declared.place.Place.{Place}
-use Rattle.rss_base.specs.declared.place.Place.TheVariants.{Room, Link as LinkPlace}
+use Rattle.rss_base.specs.declared.place.Place.TheVariants.{Room}
 use Rattle.rss_tuple.specs.Checked.{Row, Rows, tuples_of, IsSound, AreNoted}
 use Rattle.rss_tuple.specs.TupleSteps.{tuples_in}
 use Rattle.rss_model.specs.Fits.{tuple_limit}
-use Rattle.rss_model.specs.Tables.{Tables}
-use Rattle.rss_stored.specs.Store.{IsListedImage, IsReached, IsStorePage}
+use Rattle.rss_stored.specs.Store.{IsStorePage}
 use Rattle.rss_link.specs.declared.link.Relations.{Relations}
 use Rattle.rss_link.specs.Calls.{seen_with}
 use Rattle.rss_link.specs.Checking.{HasChains}
 use Rattle.rss_members.specs.Members.{of_parents, chains_of, listed_ends}
 use Rattle.rss_access.specs.Bodies.{is_body}
 use Rattle.rss_access.specs.Changes.{AccessView}
-use Rattle.rss_access.specs.Checking.{ShowsTuples, IsSound as IsSoundImage}
 
 -- the body is that of a tuple of the relation of this number
 abbrev pub begins_with : ℕ → List ℕ → Bool
@@ -89,28 +85,14 @@ pub record IsForeign (listing : Listing) (old : PagesView) (place : Place) : Typ
   pub is_not : IsStorePage listing key → ⊥
   pub elsewhere : place ≡ Room → ⊥
 
+-- each page of this kind that is mapped is one of a segment that is listed
+abbrev pub AreListed : Keys → Listing → Mapped → Type 0
+AreListed kind listing mapped =
+    (key : PageKey) → kind key → mapped key ≡ true → is_some (segment_at listing key.segment) ≡ true
+
 -- The pages of tuples aren't in form, which shows at this place.
 abbrev pub MissesTuples : Listing → PagesView → Place → Type 0
 MissesTuples listing old place = MissesOne listing old place ⊎ IsForeign listing old place
-
--- ---- images
-
--- Each image that is listed shows these tables, with identifiers of the store, and where it is unique no key twice; and each page of the space of images is one of theirs.
-pub record AreSound (at : AccessView) (tables : Tables) : Type 0 where
-  pub each : (number : ℕ) (image : ImageEntry) (relation : RelationEntry)
-      → IsListedImage at.catalog.listing number image relation
-      → IsSoundImage at tables number image relation
-  pub reached : (key : PageKey) → key.space ≡ ImageSpace → is_some (at.pages.held key) ≡ true
-      → IsReached at.pages.held at.catalog.listing tables key
-
--- so it is with whatever tables the pages of tuples spell
-abbrev pub ChecksImages : AccessView → Type 0
-ChecksImages at = (tables : Tables) → ShowsTuples at tables → AreSound at tables
-
--- It is so with none of them, which shows at this place.
-pub record MissesImages (at : AccessView) (place : Place) : Type 0 where
-  pub is_not : (tables : Tables) → ShowsTuples at tables → AreSound at tables → ⊥
-  pub elsewhere : place ≡ Room → ⊥
 
 -- ---- links
 
@@ -132,11 +114,3 @@ pub record HasLink (at : AccessView) (number : ℕ) (link : LinkEntry) : Type 0 
 abbrev pub ChecksLinks : AccessView → Type 0
 ChecksLinks at =
     (number : ℕ) (link : LinkEntry) → link_at at.catalog.listing number ≡ Some link → HasLink at number link
-
--- It isn't so of one of them, at which it shows.
-pub record MissesLinks (at : AccessView) (place : Place) : Type 0 where
-  pub number : ℕ
-  pub link : LinkEntry
-  pub listed : link_at at.catalog.listing number ≡ Some link
-  pub is_not : HasLink at number link → ⊥
-  pub named : place ≡ LinkPlace number

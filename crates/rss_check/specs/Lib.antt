@@ -5,6 +5,7 @@ pub mod Checks
 pub mod Looks
 pub mod Spellings
 pub mod Rows
+pub mod Marks
 pub mod Logs
 pub mod Faults
 pub mod Tuples

@@ -1,12 +1,14 @@
--- At which places the lines of tuples are broken, by the pages, the number of slots and the listing alone.
-use Rattle.std.specs.Prelude.{◌≡◌, ◌≢◌, ℕ, ◌+◌, true, nat_lt, if◌then◌else◌, List, Option, Some, None}
-use Rattle.rss_base.specs.Listings.{Listing, relation_at}
+-- At which places the lines of tuples, images and links are broken, by the pages, the number of slots and the listing alone.
+use Rattle.std.specs.Prelude.{◌≡◌, ◌≢◌, ℕ, ◌+◌, true, nat_lt, if◌then◌else◌, List, Contains, Option, Some, None, is_some}
+use Rattle.rss_base.specs.Listings.{Listing, relation_at, link_at}
 use Rattle.rss_base.specs.Paged.{Held, Mapped, page_key}
 use Rattle.rss_base.specs.Steps.{PagesView}
 use Rattle.rss_base.specs.declared.key.PageKey.{PageKey}
-use Rattle.rss_base.specs.declared.key.Space.TheVariants.{Overflow}
+use Rattle.rss_base.specs.declared.key.Space.TheVariants.{Overflow, Image as ImageSpace}
 use Rattle.rss_base.specs.declared.place.Place.{Place}
-use Rattle.rss_base.specs.declared.place.Place.TheVariants.{Page as PagePlace, Tuple as TuplePlace, Count as CountPlace}
+use Rattle.rss_base.specs.declared.place.Place.TheVariants.{Page as PagePlace, Tuple as TuplePlace, Count as CountPlace, Image as ImagePlace, Link as LinkPlace}
+use Rattle.rss_base.specs.declared.image.ImageEntry.{ImageEntry}
+use Rattle.rss_base.specs.declared.link.LinkEntry.{LinkEntry}
 use Rattle.rss_base.specs.declared.relation.RelationEntry.{RelationEntry}
 use Rattle.rss_base.specs.declared.tid.Tid.{Tid}
 use Rattle.rss_page.specs.Content.{Empty}
@@ -16,9 +18,12 @@ use Rattle.rss_tuple.specs.Flaws.{IsEntryRight, ComesBefore}
 use Rattle.rss_tuple.specs.Checked.{pages_of, tuples_of}
 use Rattle.rss_tuple.specs.declared.flaw.Flaw.{Flaw}
 use Rattle.rss_tuple.specs.declared.flaw.Flaw.TheVariants.{Entry, Unled}
+use Rattle.rss_stored.specs.Store.{IsListedImage}
 use Rattle.rss_access.specs.Bodies.{is_body}
+use Rattle.rss_access.specs.Rows.{HasRows}
 use Rattle.rss_check.specs.Checks.{count_of}
-use Rattle.rss_check.specs.Lines.{Line, HeapPages, Entries, Led, Counts}
+use Rattle.rss_check.specs.Lines.{Line, HeapPages, Entries, Led, Counts, Images, Reached, Links}
+use Rattle.rss_check.specs.Rows.{HasLists}
 use Rattle.rss_check.specs.Faults.{IsHeapPage}
 
 -- ---- places
@@ -49,6 +54,25 @@ BreaksAt view listing segment = BreaksIn view.held view.slots listing segment
 
 abbrev pub BreaksOf : PagesView → Listing → Line → Place → Type 0
 BreaksOf view listing = BreaksTuples view.held view.slots listing
+
+-- of images, of their pages, and of links
+pub data BreaksPaths (held : Held) (slots : ℕ) (listing : Listing) : Line → Place → Type 0 where
+  image_in : (number : ℕ) (image : ImageEntry) (relation : RelationEntry)
+      → IsListedImage listing number image relation
+      → ((nodes : List ℕ) → HasRows held slots listing number image relation nodes → ⊥)
+      → BreaksPaths held slots listing Images (ImagePlace number)
+  unused_in : (key : PageKey) → key.space ≡ ImageSpace → is_some (held key) ≡ true
+      → ((number : ℕ) (image : ImageEntry) (relation : RelationEntry) (nodes : List ℕ)
+      → IsListedImage listing number image relation
+      → HasRows held slots listing number image relation nodes
+      → key.segment ≡ relation.segment → Contains nodes key.number → ⊥)
+      → BreaksPaths held slots listing Reached (PagePlace key)
+  link_in : (number : ℕ) (link : LinkEntry) → link_at listing number ≡ Some link
+      → (HasLists held listing number link → ⊥)
+      → BreaksPaths held slots listing Links (LinkPlace number)
+
+abbrev pub PathsOf : PagesView → Listing → Line → Place → Type 0
+PathsOf view listing = BreaksPaths view.held view.slots listing
 
 -- ---- what is named
 

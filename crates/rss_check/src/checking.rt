@@ -21,15 +21,18 @@ ghost use Rattle.rss_catalog.specs.Defined.{HasFewTuples, LoadsDefined};
 ghost use Rattle.rss_access.specs.Bodies.{is_body};
 ghost use Rattle.rss_access.specs.Changes.{both};
 ghost use Rattle.rss_check.specs.Checks.{AreSeen, ChecksSegment, MissesSegment, IsCountOf};
-ghost use Rattle.rss_check.specs.Checks.{ChecksSegments, MissesTuples, ChecksImages, MissesImages};
-ghost use Rattle.rss_check.specs.Checks.{HasOwnEnds, HasLink, ChecksLinks, MissesLinks};
-ghost use Rattle.rss_check.specs.Lines.{HeapPages, IsFirst, IsLeast, AreUnbroken, IsFirstIfAny};
-ghost use Rattle.rss_check.specs.Faults.{IsFirstFault};
+ghost use Rattle.rss_check.specs.Checks.{ChecksSegments, MissesTuples, AreListed};
+ghost use Rattle.rss_check.specs.Checks.{HasOwnEnds, HasLink, ChecksLinks};
+ghost use Rattle.rss_check.specs.Lines.{HeapPages, Links, IsFirst, IsLeast, AreUnbroken, IsFirstIfAny};
+ghost use Rattle.rss_check.specs.Faults.{IsFirstFault, ArePassed};
 ghost use Rattle.rss_check.specs.Looks.{FindsTables, FindsNone};
-ghost use Rattle.rss_check.specs.Passed.{IsViewOf, PassesTuples};
-ghost use Rattle.rss_check.specs.Tuples.{BreaksAt, BreaksOf, IsFirstMapped, place_of_flaw, rank_of, earlier_of};
+ghost use Rattle.rss_check.specs.Passed.{IsViewOf, PassesTuples, OfWrongLink};
+ghost use Rattle.rss_check.specs.Refused.{IsEarlyPlace};
+ghost use Rattle.rss_check.specs.Tuples.{BreaksAt, BreaksOf, PathsOf};
+ghost use Rattle.rss_check.specs.Tuples.{IsFirstMapped, place_of_flaw, rank_of, earlier_of};
 
-use rss_access::{TUPLES_MOST, check_image};
+use crate::marking::{is_named, look_at_images};
+use rss_access::TUPLES_MOST;
 use rss_base::{
     Kind, LinkEntry, PageFault, PageKey, Pages, Place, RELATIONS_MOST, SEGMENTS, Space, Tid,
 };
@@ -43,11 +46,20 @@ use std::alloc::Global;
 /// How many places there are for the numbers of relations.
 const RELATIONS: usize = RELATIONS_MOST as usize;
 
-/// The catalog of the pages, which are looked through. What is found of the room on each page is
-/// noted there.
+/// The catalog of the pages, which are looked through. `Damaged` names the first place that isn't
+/// sound, up to the last link. What is found of the room on each page is noted there.
 pub fn look_through<P: Pages>(alloc: Global, tuples: &mut Store<P>) -> Result<Catalog, PageFault>
     ensures finds { IfOk result
         (FindsTables (P.view tuples.old.pages) (P.view tuples.new.pages)) }
+    ensures passes { OnOk result (IsTold (P.view tuples.old.pages).disk
+        → (device : DevicePages) → IsViewOf device (P.view tuples.old.pages)
+        → ArePassed device Links) }
+    ensures first { (place : AnyPlace) → result ≡ Err (PageDamaged place)
+        → IsTold (P.view tuples.old.pages).disk
+        → (device : DevicePages) → IsViewOf device (P.view tuples.old.pages)
+        → IsFirstFault device place }
+    ensures early { (place : AnyPlace) → result ≡ Err (PageDamaged place)
+        → IsTold (P.view tuples.old.pages).disk → IsEarlyPlace place }
     ensures none { (place : AnyPlace) → result ≡ Err (PageDamaged place)
         → FindsNone (P.view tuples.old.pages) place }
     ensures did { (most : ℕ) × ChecksPages IsHeapKey most
@@ -58,17 +70,8 @@ pub fn look_through<P: Pages>(alloc: Global, tuples: &mut Store<P>) -> Result<Ca
         image,
         link,
     } = look_at_tuples(alloc, &mut tuples.pages)?;
-    if let Some(key) = first_foreign(&tuples.pages, &catalog) {
-        return Err(PageFault::Damaged(Place::Page(key)));
-    }
-    look_at_links(tuples, &catalog)?;
-    look_at_images(tuples, &catalog)?;
-    if let Some(image) = image {
-        return Err(PageFault::Damaged(Place::Image(image)));
-    }
-    if let Some(link) = link {
-        return Err(PageFault::Damaged(Place::Link(link)));
-    }
+    look_at_images(alloc, tuples, &catalog, image)?;
+    look_at_links(tuples, &catalog, link)?;
     Ok(catalog)
 }
 
@@ -82,6 +85,8 @@ fn look_at_tuples<P: Pages>(alloc: Global, pages: &mut P) -> Result<Loaded, Page
         → Loads (P.view pages.old) loaded.catalog) }
     ensures checks { IfOk result (λ loaded.
         ChecksSegments loaded.catalog.listing (P.view pages.old) (P.view pages.new)) }
+    ensures listed { IfOk result (λ loaded.
+        AreListed IsHeapKey loaded.catalog.listing (P.view pages.old).mapped) }
     ensures passes { IfOk result (λ loaded. IsTold (P.view pages.old).disk
         → (device : DevicePages) → IsViewOf device (P.view pages.old)
         → PassesTuples device loaded.catalog loaded.image loaded.link) }
@@ -89,6 +94,8 @@ fn look_at_tuples<P: Pages>(alloc: Global, pages: &mut P) -> Result<Loaded, Page
         → IsTold (P.view pages.old).disk
         → (device : DevicePages) → IsViewOf device (P.view pages.old)
         → IsFirstFault device place }
+    ensures early { (place : AnyPlace) → result ≡ Err (PageDamaged place)
+        → IsTold (P.view pages.old).disk → IsEarlyPlace place }
     ensures none { (place : AnyPlace) → result ≡ Err (PageDamaged place)
         → FindsNone (P.view pages.old) place }
     ensures did { ChecksPages IsHeapKey (system_pages + 1040 * (P.view pages.old).slots)
@@ -97,42 +104,6 @@ fn look_at_tuples<P: Pages>(alloc: Global, pages: &mut P) -> Result<Loaded, Page
     let loaded = Catalog::load(alloc, pages)?;
     look_at_segments(alloc, pages, &loaded.catalog)?;
     Ok(loaded)
-}
-
-/// A page that no store with these definitions has: one of a segment that isn't defined.
-fn first_foreign<P: Pages>(pages: &P, catalog: &Catalog) -> Option<PageKey>
-    ensures some { IfSome result (λ key. (P.view pages.now).mapped key ≡ true
-        × (IsStorePage catalog.now.listing key → ⊥)) }
-    ensures none { IfNone result ((key : Key) → (P.view pages.now).mapped key ≡ true
-        → IsStorePage catalog.now.listing key) }
-{
-    for segment in 1..=SEGMENTS {
-        if let Some(key) = foreign_in(pages, catalog, segment) {
-            return Some(key);
-        }
-    }
-    None
-}
-
-/// Such a page with the number of this segment.
-fn foreign_in<P: Pages>(pages: &P, catalog: &Catalog, segment: u8) -> Option<PageKey>
-    requires low { 1 ≤ segment }
-    requires high { segment ≤ segments_most }
-    ensures some { IfSome result (λ key. (P.view pages.now).mapped key ≡ true
-        × (IsStorePage catalog.now.listing key → ⊥)) }
-    ensures none { IfNone result ((key : Key) → key.segment ≡ segment
-        → (P.view pages.now).mapped key ≡ true → IsStorePage catalog.now.listing key) }
-{
-    if catalog.used(Kind::Segment, segment) {
-        return None;
-    }
-    if let Some(key) = first_of(pages, segment, Space::Home) {
-        return Some(key);
-    }
-    if let Some(key) = first_of(pages, segment, Space::Overflow) {
-        return Some(key);
-    }
-    first_of(pages, segment, Space::Image)
 }
 
 /// The first home or overflow page with the number of this segment, if the segment isn't defined.
@@ -188,6 +159,8 @@ fn look_at_segments<P: Pages>(
     requires { ListingFits catalog.now.listing }
     ensures checks { OnOk result
         (ChecksSegments catalog.now.listing (P.view pages.old) (P.view pages.new)) }
+    ensures listed { OnOk result
+        (AreListed IsHeapKey catalog.now.listing (P.view pages.old).mapped) }
     ensures misses { (place : AnyPlace) → result ≡ Err (PageDamaged place)
         → MissesTuples catalog.now.listing (P.view pages.old) place }
     ensures first { (place : AnyPlace) → result ≡ Err (PageDamaged place)
@@ -241,19 +214,28 @@ fn order_of(place: Place) -> u16
     }
 }
 
-/// Looks at each link that is listed: the bodies of its tuples spell chains, with the ends that are
-/// listed.
-fn look_at_links<P: Pages>(tuples: &mut Store<P>, catalog: &Catalog) -> Result<(), PageFault>
+/// Looks at each link that is listed. `Damaged` names the first one whose tuples' bodies don't spell
+/// chains with the ends that are listed, or that is `wrong` by itself.
+fn look_at_links<P: Pages>(
+    tuples: &mut Store<P>,
+    catalog: &Catalog,
+    wrong: Option<u8>,
+) -> Result<(), PageFault>
     requires heaps { IsTold (P.view tuples.old.pages).disk → AreHeaps (P.view tuples.old.pages) }
     ensures checks { OnOk result (IsTold (P.view tuples.old.pages).disk
         → ChecksLinks (both (P.view tuples.old.pages) catalog.now)) }
-    ensures misses { (place : AnyPlace) → result ≡ Err (PageDamaged place)
-        → IsTold (P.view tuples.old.pages).disk
-        → MissesLinks (both (P.view tuples.old.pages) catalog.now) place }
+    ensures right { OnOk result ((number : ℕ)
+        → is_some (link_at catalog.now.listing number) ≡ true → wrong ≡ Some number → ⊥) }
+    ensures first { (place : AnyPlace) → result ≡ Err (PageDamaged place)
+        → IsTold (P.view tuples.old.pages).disk → OfWrongLink catalog.now wrong
+        (λ listing. IsLeast (PathsOf (P.view tuples.old.pages) listing Links) place) }
     ensures did { (most : ℕ) × ChecksPages no_page most
         (P.view tuples.old.pages) (P.view tuples.new.pages) result }
 {
     for place in 0..catalog.last_link() {
+        if is_named(wrong, place + 1) {
+            return Err(PageFault::Damaged(Place::Link(place + 1)));
+        }
         if catalog.used(Kind::Link, place + 1) && !has_chains(tuples, catalog, place + 1)? {
             return Err(PageFault::Damaged(Place::Link(place + 1)));
         }
@@ -299,45 +281,6 @@ fn has_own_ends(link: &LinkEntry) -> bool
     ensures { IsTrue result ↔ HasOwnEnds link.now }
 {
     link.parent.is_none() || (link.first.is_none() && link.last.is_none())
-}
-
-/// Looks at each image that is listed: it has the entries of its relation, and together they have
-/// each page of the space of images.
-fn look_at_images<P: Pages>(tuples: &mut Store<P>, catalog: &Catalog) -> Result<(), PageFault>
-    requires heaps { IsTold (P.view tuples.old.pages).disk → AreHeaps (P.view tuples.old.pages) }
-    ensures checks { OnOk result (IsTold (P.view tuples.old.pages).disk
-        → ChecksImages (both (P.view tuples.old.pages) catalog.now)) }
-    ensures misses { (place : AnyPlace) → result ≡ Err (PageDamaged place)
-        → IsTold (P.view tuples.old.pages).disk
-        → MissesImages (both (P.view tuples.old.pages) catalog.now) place }
-    ensures did { (most : ℕ) × ChecksPages no_page most
-        (P.view tuples.old.pages) (P.view tuples.new.pages) result }
-{
-    let last = catalog.last_image();
-    let mut sum = 0;
-    for place in 0..last {
-        if catalog.used(Kind::Image, place + 1) {
-            sum += u64::from(check_image(tuples, catalog, place + 1)?);
-        }
-    }
-    if sum == u64::from(tuples.pages.image_pages()) {
-        Ok(())
-    } else {
-        Err(PageFault::Damaged(unused_place(&tuples.pages, last)))
-    }
-}
-
-/// Where pages of images show that they are used by none: at the first of them, or at this image if
-/// there is no such page.
-fn unused_place<P: Pages>(pages: &P, image: u8) -> Place
-    ensures { result ≢ RoomPlace }
-{
-    for segment in 1..=SEGMENTS {
-        if let Some(key) = first_of(pages, segment, Space::Image) {
-            return Place::Page(key);
-        }
-    }
-    Place::Image(image)
 }
 
 /// Counts the tuples of a segment that it sees by their relations, each up to 2^32 - 1.

@@ -4,6 +4,7 @@
 
 mod checking;
 mod laws;
+mod marking;
 mod reading;
 
 pub use checking::look_through;

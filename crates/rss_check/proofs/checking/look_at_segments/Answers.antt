@@ -4,7 +4,7 @@ use Rattle.rss_base.specs.declared.place.Place.TheVariants.{Page as PagePlace}
 use Rattle.rss_base.proofs.Looking.{passed_on, checks_within, checks_as}
 use Rattle.rss_check.specs.Lines.{IsFirst}
 use Rattle.rss_check.specs.Tuples.{BreaksOf}
-use Rattle.rss_check.proofs.Looked.{LookedAt, eight_most, looked_none, looked_past, looked_more, looked_all, first_looked, misses_one, foreign_before, page_named, foreign_named, did_more}
+use Rattle.rss_check.proofs.Looked.{LookedAt, eight_most, looked_none, looked_past, looked_more, looked_all, listed_looked, first_looked, misses_one, foreign_before, page_named, foreign_named, did_more}
 use Rattle.rss_check.proofs.checking.look_at_segments.Goals as goal
 use Rattle.rss_check.proofs.checking.look_at_segments.Goals.{then-used+in_ok-found, else-used}
 
@@ -61,6 +61,9 @@ loop-segment-preserved g c = elim c.if-used.branch [
 pub returns-in-None-clause-checks : goal.returns-in-None-clause-checks
 returns-in-None-clause-checks g c = looked_all c.requires (omega arith)
     (subst (λ (o : Option Place). LookedAt c.args.catalog.now.listing c.loop-segment.segment o (g.P.Pages.view c.args.pages.now) (g.P.Pages.view c.loop-segment.pages)) c.in-None.is c.loop-segment.invariant)
+
+pub returns-in-None-clause-listed : goal.returns-in-None-clause-listed
+returns-in-None-clause-listed g c = listed_looked (omega arith) (g.met.P.Pages.allowed c.args.pages.now) c.loop-segment.invariant
 
 pub returns-in-None-clause-passed : goal.returns-in-None-clause-passed
 returns-in-None-clause-passed g c = first_looked c.requires (omega arith) (g.met.P.Pages.holds c.args.pages.now) (g.met.P.Pages.allowed c.args.pages.now)
