@@ -23,7 +23,7 @@ use Rattle.rss_top.specs.Tellings.{told_by, plainly, talking}
 use Rattle.rss_top.specs.Programs.{IsScriptRun, IsUnread, IsProgram}
 use Rattle.rss_top.specs.Programs.IsProgram.{runs, talks, formats, generates, tries}
 use Rattle.rss_top.specs.declared.status.Status.{Status}
-use Rattle.rss_top.specs.declared.status.Status.TheVariants.{Ok, Words, ReadFault, WriteFault, DeviceFault, NotAStore, Damaged, NoMemory, TooLong, WrongSize}
+use Rattle.rss_top.specs.declared.status.Status.TheVariants.{Ok, WriteFault, NoMemory, WrongSize}
 use Rattle.rss_top.proofs.Openings.{lacked_opening}
 
 -- ---- one command
@@ -47,13 +47,7 @@ pub all_written : {lines : List (List ℕ)} {old new : Stream} (status : Status)
 all_written Ok writes sink = inl refl
 all_written NoMemory writes sink = inr refl
 all_written WriteFault writes sink = absurd (sink writes.ends.1)
-all_written Words writes sink = absurd writes.ends
-all_written ReadFault writes sink = absurd writes.ends
-all_written DeviceFault writes sink = absurd writes.ends
-all_written (NotAStore place) writes sink = absurd writes.ends
-all_written (Damaged place) writes sink = absurd writes.ends
-all_written TooLong writes sink = absurd writes.ends
-all_written WrongSize writes sink = absurd writes.ends
+all_written status writes sink = absurd writes.ends
 
 -- ---- words that memory ran out for
 
@@ -113,11 +107,4 @@ module _ (words : List (List ℕ)) (device : DeviceView) (sink source : Stream) 
     wrong = λ not. refl;
     complete = λ fit sink device. absurd (unread.3 fit);
   })
-  unread_ends Ok good unread = absurd unread
-  unread_ends Words good unread = absurd unread
-  unread_ends ReadFault good unread = absurd unread
-  unread_ends WriteFault good unread = absurd unread
-  unread_ends DeviceFault good unread = absurd unread
-  unread_ends (NotAStore place) good unread = absurd unread
-  unread_ends (Damaged place) good unread = absurd unread
-  unread_ends TooLong good unread = absurd unread
+  unread_ends status good unread = absurd unread

@@ -1,10 +1,10 @@
 -- The opening of a device for a run, and its refusal.
-use Rattle.std.proofs.Common.{◌≡◌, ◌⊎◌, inl, inr, ℕ, List, [], Option, Some, refl, sym, ◌∙◌, ap, subst, arith}
+use Rattle.std.proofs.Common.{◌≡◌, ◌⊎◌, inl, inr, ℕ, List, [], Some, refl, sym, ◌∙◌, ap, subst, arith}
 use Rattle.rss_base.specs.DiskRule.{Disk, Pages, Told, IsTold, Leaves, Passes, Continues}
 use Rattle.rss_base.specs.Devices.{DeviceView, OnlyReads}
 use Rattle.rss_base.proofs.Flows.{gives_none, some_none, some_then}
 use Rattle.rss_base.specs.declared.place.Place.{Place}
-use Rattle.rss_base.specs.declared.place.Place.TheVariants.{Size, Root as RootPlace, Slot as SlotPlace, Catalog as CatalogPlace, Page as PagePlace, Tuple as TuplePlace, Count as CountPlace, Image as ImagePlace, Link as LinkPlace, Log as LogPlace, Room}
+use Rattle.rss_base.specs.declared.place.Place.TheVariants.{Log as LogPlace, Room}
 use Rattle.rss_base.specs.declared.fault.OpenFault.{OpenFault}
 use Rattle.rss_base.specs.declared.fault.OpenFault.TheVariants.{Device as DeviceFailed, NotAStore as NoLayout, Damaged as NoStore, NoMemory as LacksMemory}
 use Rattle.std.specs.FinMap as map
@@ -12,30 +12,29 @@ use Rattle.rss_model.specs.Meter.{at_rest}
 use Rattle.rss_model.specs.Tables.{Tables}
 use Rattle.rss_model.specs.Machine.{StoreSize, State, IsAtRest}
 use Rattle.rss_model.specs.ReplyText.{not_a_store_line, damaged_line}
-use Rattle.rss_stored.specs.Store.{Stored, IsStore, OpensTo, OpensIn, IsBrokenAt, IsOverfull, IsNoStore, overflow_pages, size_of}
+use Rattle.rss_stored.specs.Store.{Stored, IsStore, OpensTo, OpensIn, IsBrokenAt, IsNoStore, overflow_pages, size_of}
 use Rattle.rss_model.specs.Runs.{Turn, Run}
 use Rattle.rss_model.specs.Serial.{serial, RunsSerially}
 use Rattle.rss_model.proofs.Serially.{is_serial}
 use Rattle.rss_stored.proofs.LogPlaced.{stores_fit}
-use Rattle.rss_store.specs.Opening.{HasTables, IsSpent, MayLeave as StoreLeaves, PassesOpening, IsEarlyRefusal, IsHandedBack}
+use Rattle.rss_store.specs.Opening.{MayLeave as StoreLeaves, PassesOpening, IsEarlyRefusal, IsHandedBack}
 use Rattle.rss_rsi.specs.Opening.{BeginsIn, IsOpened}
 use Rattle.rss_stored.proofs.Stores.{store_unbroken}
 use Rattle.rss_base.specs.Streams.{Stream}
-use Rattle.rss_top.specs.Run.{World, Window, IsTaken, Ended, EndedSerially, IsFailedOpening, MayLeave, BeginsAt, ImagesAt, IsRun}
+use Rattle.rss_top.specs.Run.{World, Window, Ended, EndedSerially, IsStop, IsFailedOpening, MayLeave, BeginsAt, ImagesAt, IsRun}
 use Rattle.rss_top.specs.Run.IsRun.{unopened, opened}
 use Rattle.rss_stored.specs.Calls.{EngineView}
 use Rattle.rss_top.specs.Manners.{Manner, IsSound, first_stand}
 use Rattle.rss_top.specs.Lines.{View, DriverView, IsScriptEnd, RunsScript, beginning, on, seen}
 use Rattle.rss_top.specs.Says.{Says, TellsDamage}
-use Rattle.rss_top.specs.Says.IsSaid.{said, cut, unsaid}
+use Rattle.rss_top.specs.Says.IsSaid.{said, unsaid}
 use Rattle.rss_top.specs.Programs.{IsLeftAlone, IsRefusal, IsRefused, IsRunFrom, IsTurnedAway, IsRunEnd, IsFaultless, IsScriptRun}
 use Rattle.rss_top.specs.Programs.IsRefusal.{says, fails}
 use Rattle.rss_top.specs.declared.status.Status.{Status}
-use Rattle.rss_top.specs.declared.status.Status.TheVariants.{Ok, Words, ReadFault, WriteFault, DeviceFault, NotAStore, Damaged, NoMemory, TooLong, WrongSize}
+use Rattle.rss_top.specs.declared.status.Status.TheVariants.{Ok, ReadFault, WriteFault, DeviceFault, NotAStore, Damaged, NoMemory, TooLong}
 use Rattle.rss_base.proofs.Moments.{rises_since, widened}
-use Rattle.rss_top.proofs.Endings.{IsCut, stop_is_cut, damaged_is_cut, layout_is_cut, taken_cut, not_too_long}
-use Rattle.rss_top.proofs.Plays.{played_is_run}
-use Rattle.rss_top.proofs.Refusals.{said_is_cut, says_some, tells_no_damage, tells_damage}
+use Rattle.rss_top.proofs.Endings.{stop_is_cut, damaged_is_cut, layout_is_cut, taken_cut, not_too_long, by_said, said_is_cut, says_some, tells_no_damage, tells_damage}
+use Rattle.rss_top.proofs.Stories.{played_is_run}
 
 -- ---- the state in which a run begins
 
@@ -58,30 +57,15 @@ leaves_at before stored first same_size committed image (inr holds) = inr (as_st
 opening_window : {before opened after : Disk} {P : Pages → Type 0} → Passes before opened P → Continues opened after → Window after before.moment opened.moment P
 opening_window opening history = record { later = opening.later; each = λ t image lt le left. opening.each t image lt le ((history.past t image le).0 left) }
 
-module _ {manner : Manner} {device below : DeviceView} {engine : EngineView} {sink : Stream} {ended : View manner} {source_old source_new : Stream} {status : Status} (sound : IsSound manner)
+module _ {manner : Manner} {rate : ℕ} {settled : Type 0} {owed : ℕ} {device below : DeviceView} {engine : EngineView} {sink : Stream} {ended : View manner} {source_old source_new : Stream} {status : Status} (sound : IsSound manner)
     (opening : IsOpened device engine) (passes : PassesOpening device below) (leaves : (image : Pages) → Leaves below.disk image → Leaves engine.disk image)
-    (ran : RunsScript (record { world = on below sink; shows = engine.shows; memory = manner.start; is_up = engine.is_up; calls = engine.calls }) ended source_old source_new status) (tells : TellsDamage status sink ended.world.sink) where
-  still_told : IsTold device.disk → IsTold below.disk
-  still_told told = passes.told told
-
-  completes : IsFaultless (on device sink) ended.world source_old source_new → (end : Status) → (end ≡ TooLong → ⊥) → ((place : Place) → end ≡ Damaged place → ⊥) → IsScriptEnd (on below sink) ended.world source_old source_new end → (end ≡ Ok) ⊎ (end ≡ NoMemory)
-  completes faultless Ok long damaged cause = inl refl
-  completes faultless NoMemory long damaged cause = inr refl
-  completes faultless ReadFault long damaged cause = absurd (faultless.source cause)
-  completes faultless WriteFault long damaged cause = absurd (faultless.sink cause)
-  completes faultless DeviceFault long damaged cause = absurd (faultless.device (rises_since passes.later cause))
-  completes faultless (Damaged place) long damaged cause = absurd (damaged place refl)
-  completes faultless TooLong long damaged cause = absurd (long refl)
-  completes faultless Words long damaged cause = absurd cause
-  completes faultless (NotAStore place) long damaged cause = absurd cause
-  completes faultless WrongSize long damaged cause = absurd cause
-
+    (ran : RunsScript rate (record { world = on below sink; shows = engine.shows; memory = manner.start; is_up = engine.is_up; is_settled = settled; calls = engine.calls; owed = owed }) ended source_old source_new status) (tells : TellsDamage status sink ended.world.sink) where
   module _ {pages : Pages} {stored : Stored} (told : device.disk.contents ≡ Some pages) (store : IsStore pages stored) where
     abbrev found : BeginsIn stored engine
     found = opening.begins pages told stored store
 
     end_at : Ended status (beginning manner (first_stand manner found.state) (on below sink) source_old) ended.world source_new.bytes
-    end_at = ran.ended (still_told (record { pages = pages; is = told })) found.state found.shows
+    end_at = ran.ended (passes.told (record { pages = pages; is = told })) found.state found.shows
 
     serially : (made : List Turn) (last : State) → Run found.state made last → RunsSerially found.state (serial made) last.base
     serially made last run =
@@ -98,7 +82,7 @@ module _ {manner : Manner} {device below : DeviceView} {engine : EngineView} {si
 
     begins_at : ImagesAt below.disk.moment ended.world.disk (BeginsAt found.state)
     begins_at image left =
-        let history = ran.passes.history (still_told (record { pages = pages; is = told })) in
+        let history = ran.passes.history (passes.told (record { pages = pages; is = told })) in
         let opens = found.opens image (leaves image ((history.past below.disk.moment image (omega arith)).0 left)) in
         let idle = found.rest.idle in
         record {
@@ -111,25 +95,29 @@ module _ {manner : Manner} {device below : DeviceView} {engine : EngineView} {si
         let known : IsTold device.disk = record { pages = pages; is = told } in
         let idle = found.rest.idle in
         opened below.disk.moment opening.not_spent
-        (opening_window (widened (passes.moments pages told stored store) (leaves_at device.disk stored found.state idle.same_size idle.committed)) (ran.passes.history (still_told known)))
-        (λ read is other is_store rested. opening_window ((passes.rested read is other is_store rested).moments known) (ran.passes.history (still_told known)))
+        (opening_window (widened (passes.moments pages told stored store) (leaves_at device.disk stored found.state idle.same_size idle.committed)) (ran.passes.history (passes.told known)))
+        (λ read is other is_store rested. opening_window ((passes.rested read is other is_store rested).moments known) (ran.passes.history (passes.told known)))
         begins_at ended_serially
 
   -- damage is found in no store
   none_damaged : (place : Place) → status ≡ Damaged place → Told device.disk IsNoStore
   none_damaged place is pages told size tables opens = (end_at told opens.store).undamaged place is
 
-  run_end : (end : Status) → ((place : Place) → end ≡ Damaged place → Told device.disk IsNoStore) → IsScriptEnd (on below sink) ended.world source_old source_new end → IsRunEnd (on device sink) ended.world source_old source_new end
-  run_end Ok none cause = tt
-  run_end NoMemory none cause = tt
-  run_end TooLong none cause = tt
-  run_end ReadFault none cause = cause
-  run_end WriteFault none cause = cause
-  run_end DeviceFault none cause = rises_since passes.later cause
-  run_end (Damaged place) none cause = λ pages told. inr (record { none = none place refl pages told; unbroken = λ other. opening.unbroken other pages told; not_overfull = opening.not_overfull pages told })
-  run_end Words none cause = absurd cause
-  run_end (NotAStore place) none cause = absurd cause
-  run_end WrongSize none cause = absurd cause
+  -- the cause of a status, and that it is no fault, where there is none
+  ends_by : (end : Status) → ((place : Place) → end ≡ Damaged place → Told device.disk IsNoStore) → IsScriptEnd (on below sink) ended.world source_old source_new end
+      → IsRunEnd (on device sink) ended.world source_old source_new end
+      × (IsFaultless (on device sink) ended.world source_old source_new → (end ≡ TooLong → ⊥) → ((place : Place) → end ≡ Damaged place → ⊥) → (end ≡ Ok) ⊎ (end ≡ NoMemory))
+  ends_by Ok none cause = (tt, λ faultless short sound. inl refl)
+  ends_by NoMemory none cause = (tt, λ faultless short sound. inr refl)
+  ends_by TooLong none cause = (tt, λ faultless short sound. absurd (short refl))
+  ends_by ReadFault none cause = (cause, λ faultless short sound. absurd (faultless.source cause))
+  ends_by WriteFault none cause = (cause, λ faultless short sound. absurd (faultless.sink cause))
+  ends_by DeviceFault none cause = (rises_since passes.later cause, λ faultless short sound. absurd (faultless.device (rises_since passes.later cause)))
+  ends_by (Damaged place) none cause = (
+    λ pages told. inr (record { none = none place refl pages told; unbroken = λ other. opening.unbroken other pages told; not_overfull = opening.not_overfull pages told }),
+    λ faultless short sound. absurd (sound place refl),
+  )
+  ends_by end none cause = absurd cause
 
   pub script_ran : IsScriptRun manner status (on device sink) ended.world source_old source_new
   script_ran = record {
@@ -140,14 +128,12 @@ module _ {manner : Manner} {device below : DeviceView} {engine : EngineView} {si
           begins = as_opened (λ s t. IsAtRest s t first) opens (found told opens.store).rest;
           run = run_at told opens.store;
         };
-    complete = λ size tables pages told opens script source short faultless.
-        let end = end_at told opens.store in
-        completes faultless status (not_too_long script source short end) end.undamaged ran.cause;
+    complete = λ size tables pages told opens script source short faultless. (ends_by status none_damaged ran.cause).1 faultless (not_too_long script source short ran.taken) (end_at told opens.store).undamaged;
     broken = λ place pages told broken. absurd (opening.unbroken place pages told broken);
     overfull = λ pages told over. absurd (opening.not_overfull pages told over);
     no_tables = λ pages told none. absurd (none (opening.tables pages told));
     spent = λ pages told is. absurd (opening.not_spent pages told is);
-    cause = run_end status none_damaged ran.cause;
+    cause = (ends_by status none_damaged ran.cause).0;
     taken = ran.taken;
     tells = tells;
   }
@@ -173,44 +159,24 @@ opening_rest opens = record { idle = record { same_size = refl; committed = refl
 left_alone : {device back : DeviceView} {sink_old sink_new source : Stream} → OnlyReads device back → IsLeftAlone (on device sink_old) (on back sink_new) source source
 left_alone reads = record { unread = refl; writes = reads.same_writes; moments = reads.moments }
 
-taken_none : {status : Status} (left : Option (List ℕ)) → IsCut status → IsTaken status left left
-taken_none left is = taken_cut [] (gives_none left) (omega arith) is
-
 -- a refusal at no position of the log comes before anything is written
 comes_early : (place : Place) → ((position : ℕ) → place ≡ LogPlace position → ⊥) → IsEarlyRefusal (NoStore place)
-comes_early Size off = tt
-comes_early (RootPlace number) off = tt
-comes_early (SlotPlace slot) off = tt
-comes_early (CatalogPlace page) off = tt
-comes_early (PagePlace key) off = tt
-comes_early (TuplePlace segment tid) off = tt
-comes_early (CountPlace relation) off = tt
-comes_early (ImagePlace image) off = tt
-comes_early (LinkPlace link) off = tt
 comes_early (LogPlace position) off = absurd (off position refl)
-comes_early Room off = tt
+comes_early place off = tt
 
 -- the place that a fault of the layout has, and that of a map of too many pages
 named_place : {fault : OpenFault} {place other : Place} → fault ≡ NoLayout place → (fault ≡ NoLayout other) ⊎ (fault ≡ DeviceFailed) ⊎ (fault ≡ LacksMemory) → place ≡ other
-named_place is (inl named) = cc
-named_place is (inr (inl device)) = absurd (cc)
-named_place is (inr (inr memory)) = absurd (cc)
+named_place is named = grind arith
 
 named_room : {fault : OpenFault} {place : Place} → fault ≡ NoStore place → (fault ≡ NoStore Room) ⊎ (fault ≡ DeviceFailed) ⊎ (fault ≡ LacksMemory) → place ≡ Room
-named_room is (inl named) = cc
-named_room is (inr (inl device)) = absurd (cc)
-named_room is (inr (inr memory)) = absurd (cc)
+named_room is named = grind arith
 
 -- neither is the other
 no_room : {fault : OpenFault} {place : Place} → fault ≡ NoLayout place → (fault ≡ NoStore Room) ⊎ (fault ≡ DeviceFailed) ⊎ (fault ≡ LacksMemory) → ⊥
-no_room is (inl named) = cc
-no_room is (inr (inl device)) = cc
-no_room is (inr (inr memory)) = cc
+no_room is named = grind arith
 
 no_place : {fault : OpenFault} {place other : Place} → fault ≡ NoStore place → (fault ≡ NoLayout other) ⊎ (fault ≡ DeviceFailed) ⊎ (fault ≡ LacksMemory) → ⊥
-no_place is (inl named) = cc
-no_place is (inr (inl device)) = cc
-no_place is (inr (inr memory)) = cc
+no_place is named = grind arith
 
 module _ (manner : Manner) {device back : DeviceView} {fault : OpenFault} (handed : IsHandedBack device back fault) where
   -- what a stop leaves of a store, by a state in which it would be opened
@@ -228,18 +194,6 @@ module _ (manner : Manner) {device back : DeviceView} {fault : OpenFault} (hande
     abbrev after : World
     after = on back sink_new
 
-    broken_alone : (place : Place) → Told device.disk (λ pages. IsBrokenAt place pages → IsLeftAlone before after source source)
-    broken_alone place pages told broken = left_alone (handed.broken place pages told broken)
-
-    overfull_alone : Told device.disk (λ pages. IsOverfull pages → IsLeftAlone before after source source)
-    overfull_alone pages told over = left_alone (handed.overfull pages told over)
-
-    tables_alone : Told device.disk (λ pages. (HasTables pages → ⊥) → IsLeftAlone before after source source)
-    tables_alone pages told none = left_alone (handed.tables pages told none)
-
-    spent_alone : Told device.disk (λ pages. IsSpent pages → IsLeftAlone before after source source)
-    spent_alone pages told spent = left_alone (handed.spent pages told spent)
-
     -- the opening failed
     unopened_from : {status : Status} {pages : Pages} {size : StoreSize} {tables : Tables} → device.disk.contents ≡ Some pages → OpensTo pages size tables → IsFailedOpening status → sink_new.bytes ≡ sink_old.bytes → IsRunFrom manner (IsAtRest size tables) status before after source.bytes source.bytes
     unopened_from told opens failed silent = record {
@@ -248,35 +202,29 @@ module _ (manner : Manner) {device back : DeviceView} {fault : OpenFault} (hande
       run = unopened failed (passes_store told opens) refl silent;
     }
 
+    unopened_ends : {status : Status} → IsFailedOpening status → sink_new.bytes ≡ sink_old.bytes → ((meant : Status) → IsRefusal meant status before after) → IsRunEnd before after source source status → (IsFaultless before after source source → (status ≡ Ok) ⊎ (status ≡ NoMemory))
+        → IsScriptRun manner status before after source source
+    unopened_ends {status = status} failed silent refusal cause complete =
+        let stops : IsStop status = inr failed in
+        record {
+          run = λ size tables pages told opens. unopened_from told opens failed silent;
+          complete = λ size tables pages told opens script given short faultless. complete faultless;
+          broken = λ place pages told broken. record { alone = left_alone (handed.broken place pages told broken); refusal = refusal (NotAStore place) };
+          overfull = λ pages told over. record { alone = left_alone (handed.overfull pages told over); refusal = refusal (Damaged Room) };
+          no_tables = λ pages told none. record { place = Room; refused = inl (record { alone = left_alone (handed.tables pages told none); refusal = refusal (NotAStore Room) }) };
+          spent = λ pages told spent. left_alone (handed.spent pages told spent);
+          cause = cause;
+          taken = taken_cut [] (gives_none source.bytes) (omega arith) (stop_is_cut stops);
+          tells = record { last = λ place is. absurd (grind arith) };
+        }
+
     pub failed_opening : fault ≡ DeviceFailed → sink_new ≡ sink_old → IsScriptRun manner DeviceFault before after source source
     failed_opening is same =
         let silent = ap (λ (s : Stream). s.bytes) same in
-        record {
-          run = λ size tables pages told opens. unopened_from told opens (inl refl) silent;
-          complete = λ size tables pages told opens script given short faultless. absurd (faultless.device (handed.cause is));
-          broken = λ place pages told broken. record { alone = broken_alone place pages told broken; refusal = fails refl silent };
-          overfull = λ pages told over. record { alone = overfull_alone pages told over; refusal = fails refl silent };
-          no_tables = λ pages told none. record { place = Room; refused = inl (record { alone = tables_alone pages told none; refusal = fails refl silent }) };
-          spent = spent_alone;
-          cause = handed.cause is;
-          taken = taken_none source.bytes (stop_is_cut (inr (inl refl)));
-          tells = record { last = λ place is. absurd (cc) };
-        }
+        unopened_ends (inl refl) silent (λ meant. fails refl silent) (handed.cause is) (λ faultless. absurd (faultless.device (handed.cause is)))
 
     pub lacked_opening : sink_new ≡ sink_old → IsScriptRun manner NoMemory before after source source
-    lacked_opening same =
-        let silent : (meant : Status) → IsRefusal meant NoMemory before after = λ meant. says (record { later = omega (arith, ap (λ (s : Stream). s.faults) same); how = unsaid refl same }) in
-        record {
-          run = λ size tables pages told opens. unopened_from told opens (inr refl) (ap (λ (s : Stream). s.bytes) same);
-          complete = λ size tables pages told opens script given short faultless. inr refl;
-          broken = λ place pages told broken. record { alone = broken_alone place pages told broken; refusal = silent (NotAStore place) };
-          overfull = λ pages told over. record { alone = overfull_alone pages told over; refusal = silent (Damaged Room) };
-          no_tables = λ pages told none. record { place = Room; refused = inl (record { alone = tables_alone pages told none; refusal = silent (NotAStore Room) }) };
-          spent = spent_alone;
-          cause = tt;
-          taken = taken_none source.bytes (stop_is_cut (inr (inr refl)));
-          tells = record { last = λ place is. absurd (cc) };
-        }
+    lacked_opening same = unopened_ends (inr refl) (ap (λ (s : Stream). s.bytes) same) (λ meant. says (record { later = omega (arith, ap (λ (s : Stream). s.faults) same); how = unsaid refl same })) tt (λ faultless. inr refl)
 
     -- the layout is out of form at this place
     module _ {place : Place} {status : Status} (is : fault ≡ NoLayout place) (line : Says (NotAStore place) (not_a_store_line place) status sink_old sink_new) where
@@ -286,13 +234,6 @@ module _ (manner : Manner) {device back : DeviceView} {fault : OpenFault} (hande
       no_layout : IsRefused (NotAStore place) status before after source source
       no_layout = record { alone = left_alone (handed.no_layout place is); refusal = says line }
 
-      cause_of : IsRunEnd before after source source status
-      cause_of = elim line.how [
-        | said same takes ↦ subst (λ (s : Status). IsRunEnd before after source source s) (sym same) (broken_there, subst (λ (s : Status). IsRefused (NotAStore place) s before after source source) same no_layout)
-        | cut same front rises ↦ subst (λ (s : Status). IsRunEnd before after source source s) (sym same) rises
-        | unsaid same silent ↦ subst (λ (s : Status). IsRunEnd before after source source s) (sym same) tt
-      ]
-
       pub layout_refused : IsScriptRun manner status before after source source
       layout_refused = record {
         run = λ size tables pages told opens. absurd (store_unbroken opens place (broken_there pages told));
@@ -300,9 +241,12 @@ module _ (manner : Manner) {device back : DeviceView} {fault : OpenFault} (hande
         broken = λ other pages told there. subst (λ (p : Place). IsRefused (NotAStore p) status before after source source) (named_place is ((handed.refused.refused pages told).names other there)) no_layout;
         overfull = λ pages told over. absurd (no_room is ((handed.refused.refused pages told).overfull over));
         no_tables = λ pages told none. record { place = place; refused = inl no_layout };
-        spent = spent_alone;
-        cause = cause_of;
-        taken = taken_none source.bytes (said_is_cut (layout_is_cut place) line);
+        spent = λ pages told spent. left_alone (handed.spent pages told spent);
+        cause = by_said (IsRunEnd before after source source) line
+            (λ takes. (broken_there, record { alone = no_layout.alone; refusal = says (record { later = line.later; how = said refl takes }) }))
+            (λ front rises. rises)
+            (λ silent. tt);
+        taken = taken_cut [] (gives_none source.bytes) (omega arith) (said_is_cut (layout_is_cut place) line);
         tells = tells_no_damage line;
       }
 
@@ -319,48 +263,41 @@ module _ (manner : Manner) {device back : DeviceView} {fault : OpenFault} (hande
             keeps = λ position at. handed.keeps position (is ∙ ap NoStore at) pages told;
           }
 
-      why_damaged : IsRunEnd before after source source status
-      why_damaged = elim line.how [
-        | said same takes ↦ subst (λ (s : Status). IsRunEnd before after source source s) (sym same) (λ pages told. inl (turned_away pages told))
-        | cut same front rises ↦ subst (λ (s : Status). IsRunEnd before after source source s) (sym same) rises
-        | unsaid same silent ↦ subst (λ (s : Status). IsRunEnd before after source source s) (sym same) tt
-      ]
-
       pub store_refused : IsScriptRun manner status before after source source
       store_refused = record {
         run = λ size tables pages told opens. absurd (none_opens is pages told size tables opens);
         complete = λ size tables pages told opens. absurd (none_opens is pages told size tables opens);
         broken = λ other pages told there. absurd (no_place is ((handed.refused.refused pages told).names other there));
-        overfull = λ pages told over. subst (λ (p : Place). IsRefused (Damaged p) status before after source source) (named_room is ((handed.refused.refused pages told).overfull over)) (record { alone = overfull_alone pages told over; refusal = says line });
-        no_tables = λ pages told none. record { place = place; refused = inr (record { alone = tables_alone pages told none; refusal = says line }) };
-        spent = spent_alone;
-        cause = why_damaged;
-        taken = taken_none source.bytes (said_is_cut (damaged_is_cut place) line);
+        overfull = λ pages told over. subst (λ (p : Place). IsRefused (Damaged p) status before after source source) (named_room is ((handed.refused.refused pages told).overfull over)) (record { alone = left_alone (handed.overfull pages told over); refusal = says line });
+        no_tables = λ pages told none. record { place = place; refused = inr (record { alone = left_alone (handed.tables pages told none); refusal = says line }) };
+        spent = λ pages told spent. left_alone (handed.spent pages told spent);
+        cause = by_said (IsRunEnd before after source source) line
+            (λ takes pages told. inl (turned_away pages told)) (λ front rises. rises) (λ silent. tt);
+        taken = taken_cut [] (gives_none source.bytes) (omega arith) (said_is_cut (damaged_is_cut place) line);
         tells = tells_damage (some_none _) line;
       }
 
 -- ---- a line found the store damaged
 
-module _ {manner : Manner} (driver : DriverView manner) {old : View manner} {before after : Stream} {source_old source_new : Stream} {place : Place} {status : Status} (ran : RunsScript old (seen driver before) source_old source_new (Damaged place)) (line : Says (Damaged place) (damaged_line place) status before after) where
-  end_said : IsScriptEnd old.world (seen driver after).world source_old source_new status
-  end_said = elim line.how [
-    | said same takes ↦ subst (λ (s : Status). IsScriptEnd old.world (seen driver after).world source_old source_new s) (sym same) ran.cause
-    | cut same front rises ↦ subst (λ (s : Status). IsScriptEnd old.world (seen driver after).world source_old source_new s) (sym same) (rises_since ran.passes.sink rises)
-    | unsaid same silent ↦ subst (λ (s : Status). IsScriptEnd old.world (seen driver after).world source_old source_new s) (sym same) tt
-  ]
-
-  is_cut : IsCut status
-  is_cut = said_is_cut (damaged_is_cut place) line
-
-  pub damage_refused : RunsScript old (seen driver after) source_old source_new status
-  damage_refused = record {
-    passes = record { told = ran.passes.told; history = ran.passes.history; device = ran.passes.device; sink = omega (arith, ran.passes.sink, line.later); said = some_then ran.passes.said (says_some line) };
-    cause = end_said;
-    taken = taken_cut ran.taken.given ran.taken.gives ran.taken.most is_cut;
-    calls = ran.calls;
-    up = λ ok. absurd (is_cut.within (inl ok));
-    ended = λ told state shows. absurd ((ran.ended told state shows).undamaged place refl);
-  }
+module _ {manner : Manner} {rate : ℕ} (driver : DriverView manner) {old : View manner} {before after : Stream} {source_old source_new : Stream} {place : Place} {status : Status} (ran : RunsScript rate old (seen driver before) source_old source_new (Damaged place)) (line : Says (Damaged place) (damaged_line place) status before after) where
+  pub damage_refused : RunsScript rate old (seen driver after) source_old source_new status
+  damage_refused =
+      let cut = said_is_cut (damaged_is_cut place) line in
+      record {
+        passes = record {
+          told = ran.passes.told;
+          history = ran.passes.history;
+          device = ran.passes.device;
+          sink = omega (arith, ran.passes.sink, line.later);
+          said = some_then ran.passes.said (says_some line);
+        };
+        cause = by_said (IsScriptEnd old.world (seen driver after).world source_old source_new) line
+            (λ takes. ran.cause) (λ front rises. rises_since ran.passes.sink rises) (λ silent. tt);
+        taken = taken_cut ran.taken.given ran.taken.gives ran.taken.most cut;
+        calls = ran.calls;
+        up = λ ok. absurd (cut.within (inl ok));
+        ended = λ told state shows. absurd ((ran.ended told state shows).undamaged place refl);
+      }
 
   pub damage_told : TellsDamage status old.world.sink after
   damage_told = tells_damage ran.passes.said line

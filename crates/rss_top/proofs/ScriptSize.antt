@@ -19,19 +19,9 @@ size_when : (test : Bool) (lines : List (List ℕ)) → size (when test lines) �
 size_when true lines = omega arith
 size_when false lines = omega arith
 
--- one line, and two
-size_one : (line : List ℕ) → size (line ∷ []) ≡ length line + 1
-size_one line = omega (arith, length-append line (10 ∷ []))
-
+-- one line more
 size_more : (line : List ℕ) (lines : List (List ℕ)) → size (line ∷ lines) ≡ length line + 1 + size lines
 size_more line lines = omega (arith, length-append line (10 ∷ joined lines))
-
--- a text in five parts and in seven
-length-five : (a b c d e : List ℕ) → length (a ++ b ++ c ++ d ++ e) ≡ length a + length b + length c + length d + length e
-length-five a b c d e = omega (arith, length-append (a ++ b ++ c ++ d) e, length-append (a ++ b ++ c) d, length-append (a ++ b) c, length-append a b)
-
-length-seven : (a b c d e f g : List ℕ) → length (a ++ b ++ c ++ d ++ e ++ f ++ g) ≡ length a + length b + length c + length d + length e + length f + length g
-length-seven a b c d e f g = omega (arith, length-append (a ++ b ++ c ++ d ++ e ++ f) g, length-append (a ++ b ++ c ++ d ++ e) f, length-five a b c d e)
 
 -- ---- a line
 
@@ -45,27 +35,16 @@ drawn_low limit x some = omega arith
 
 module _ (i pay : ℕ) (low : i < 100000) (less : pay < 1000) where
   employee_short : length (employee_text i pay) ≤ 20
-  employee_short =
-      let e : length (codes " \"e") ≡ 3 = refl in
-      let q : length (codes "\" ") ≡ 2 = refl in
-      let all : length (employee_text i pay) ≡ length (decimal i) + length (codes " \"e") + length (decimal i) + length (codes "\" ") + length (decimal pay) = length-five (decimal i) (codes " \"e") (decimal i) (codes "\" ") (decimal pay) in
-      omega (arith, e, q, all, digits i low, digits pay (omega (arith, less)))
+  employee_short = simp length-append (omega (arith, digits i low, digits pay (omega (arith, less))))
 
   insert_short : length (insert_line i pay) ≤ 40
-  insert_short =
-      let front : length (codes "$e = insert 1 emp ") ≡ 18 = refl in
-      omega (arith, front, length-append (codes "$e = insert 1 emp ") (employee_text i pay), employee_short)
+  insert_short = omega (arith, length-append (codes "$e = insert 1 emp ") (employee_text i pay), employee_short)
 
   update_short : length (update_line i pay) ≤ 40
-  update_short =
-      let front : length (codes "update 1 emp $e ") ≡ 16 = refl in
-      omega (arith, front, length-append (codes "update 1 emp $e ") (employee_text i pay), employee_short)
+  update_short = omega (arith, length-append (codes "update 1 emp $e ") (employee_text i pay), employee_short)
 
 connect_short : (k : ℕ) → k < 10 → length (connect_line k) ≤ 40
-connect_short k low =
-    let front : length (codes "connect 1 works $e $d") ≡ 21 = refl in
-    let back : length (codes " last") ≡ 5 = refl in
-    omega (arith, front, back, length-append (codes "connect 1 works $e $d") (decimal k ++ codes " last"), length-append (decimal k) (codes " last"), digits k (omega (arith, low)))
+connect_short k low = simp length-append (omega (arith, digits k (omega (arith, low))))
 
 -- ---- the lines of an employee
 
@@ -85,7 +64,7 @@ update_size : (i x : ℕ) → i < 100000 → size (update_lines i x) ≤ 41
 unfolding update_lines
 update_size i x low =
     let line = update_line i (drawn 1000 (next_pay_state x)) in
-    omega (arith, size_when (i % 8 == 0) (line ∷ []), size_one line, update_short i (drawn 1000 (next_pay_state x)) low (drawn_low 1000 (next_pay_state x) (omega arith)))
+    omega (arith, size_when (i % 8 == 0) (line ∷ []), size_more line [], update_short i (drawn 1000 (next_pay_state x)) low (drawn_low 1000 (next_pay_state x) (omega arith)))
 
 employee_size : (count i x : ℕ) → i < 100000 → size (employee_lines count i x) ≤ 166
 employee_size count i x low =
@@ -118,27 +97,15 @@ first_size number count (suc i) few =
 
 -- ---- the script
 
+department_short : (k : ℕ) → k < 10 → length (department_line k) ≤ 40
+department_short k low = simp length-append (omega (arith, digits k (omega (arith, low))))
+
 departments_size : (first many : ℕ) → first + many ≤ 10 → size (map department_line (range_with_len first many)) ≤ many * 60
 departments_size first zero few = omega arith
 departments_size first (suc many) few =
-    let line = department_line first in
-    let a : length (codes "$d") ≡ 2 = refl in
-    let b : length (codes " = insert 1 dept ") ≡ 17 = refl in
-    let c : length (codes " \"d") ≡ 3 = refl in
-    let d : length (codes "\"") ≡ 1 = refl in
-    let whole : length line ≡ length (codes "$d") + length (decimal first) + length (codes " = insert 1 dept ") + length (decimal first) + length (codes " \"d") + length (decimal first) + length (codes "\"") =
-    length-seven (codes "$d") (decimal first) (codes " = insert 1 dept ") (decimal first) (codes " \"d") (decimal first) (codes "\"") in
-    omega (
-      arith,
-      a,
-      b,
-      c,
-      d,
-      size_more line (map department_line (range_with_len (first + 1) many)),
-      whole,
-      digits first (omega (arith, few)),
-      departments_size (first + 1) many (omega (arith, few)),
-    )
+    let more = size_more (department_line first) (map department_line (range_with_len (first + 1) many)) in
+    let line = department_short first (omega (arith, few)) in
+    omega (arith, more, line, departments_size (first + 1) many (omega (arith, few)))
 
 opening_size : size opening_lines ≤ 1000
 unfolding opening_lines
@@ -158,12 +125,6 @@ closing_size = omega arith
 pub generated_short : (number count : ℕ) → count ≤ most_employees → length (joined (generated number count)) < 2 ^ 30
 unfolding generated
 generated_short number count few =
-    omega (
-      arith,
-      size_append opening_lines (first_employees number count count ++ closing_lines),
-      size_append (first_employees number count count) closing_lines,
-      opening_size,
-      first_size number count count few,
-      closing_size,
-      few,
-    )
+    let one = size_append opening_lines (first_employees number count count ++ closing_lines) in
+    let two = size_append (first_employees number count count) closing_lines in
+    omega (arith, one, two, opening_size, first_size number count count few, closing_size, few)

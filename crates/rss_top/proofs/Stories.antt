@@ -1,27 +1,36 @@
--- How a run over lines goes on.
-use Rattle.std.proofs.Common.{◌≡◌, ◌≢◌, inl, inr, ⊎_elim, ℕ, ◌≤◌, List, [], ◌∷◌, ◌++◌, Option, refl, sym, ◌∙◌, ap, subst, arith, append_assoc}
-use Rattle.std.proofs.lemmas.List.{append-nil}
-use Rattle.std.proofs.lemmas.List.Elements.{All-push, All-append}
-use Rattle.std.specs.Prelude.{All}
-use Rattle.rss_base.specs.DiskRule.{Disk, Pages, Passes}
+-- How a run over moves goes on.
+use Rattle.std.proofs.Common.{◌≡◌, ◌≢◌, inl, ⊎_elim, ℕ, ◌<◌, ◌≤◌, Bool, true, false, List, [], ◌∷◌, ◌++◌, length, refl, sym, ◌∙◌, ap, subst, arith, append_assoc, append-nil}
+use Rattle.std.proofs.lemmas.List.Elements.{All-nil, All-push}
+use Rattle.rss_base.specs.DiskRule.{Disk, Pages, Passes, Continues}
 use Rattle.rss_base.specs.Streams.{Stream, Takes}
 use Rattle.rss_base.proofs.Flows.{takes_none, takes_then}
 use Rattle.rss_base.proofs.Moments.{started, now}
 use Rattle.rss_model.specs.Machine.{State}
-use Rattle.rss_model.specs.Script.{joined, IsUnbroken, last_line}
-use Rattle.rss_model.specs.Plays.{Made}
-use Rattle.rss_top.specs.Manners.{Manner, Stand, IsSound}
-use Rattle.rss_top.proofs.Plays.{played_is_play, played_is_run}
-use Rattle.rss_top.proofs.Ways.{by_stop}
-use Rattle.rss_top.specs.Run.{World, Point, point_now, Beginning, HoldsAt, ImagesNow, LineTurn, Played, Story, Stopped, IsStoppedBy, Whole, IsLineFault, EndsLine}
+use Rattle.rss_model.specs.Script.{joined, IsUnbroken, Splits, AreLines, last_line}
+use Rattle.rss_model.specs.Plays.{Made, nothing, both_made}
+use Rattle.rss_model.specs.Runs.{Run}
+use Rattle.rss_top.specs.Manners.{Manner, Stand, Input, Line, lines_in, IsSound}
+use Rattle.rss_top.specs.TellingLaws.{lines-append}
+use Rattle.rss_top.proofs.Endings.{by_stop}
+use Rattle.rss_top.specs.Run.{Point, point_now, Beginning, HoldsAt, ImagesNow, LineTurn, Played, Story, Stopped, IsStoppedBy, IsCutAt, IsInLine, IsBetween, Whole, IsLineFault, EndsLine}
 use Rattle.rss_top.specs.Run.Played.{none, more}
-use Rattle.rss_top.specs.Lines.{View, LineDone, LineRan, LineStopped, MemoryStopped, stand_in, beginning}
+use Rattle.rss_top.specs.Run.IsBetween.{some_taken, all_taken}
+use Rattle.rss_top.specs.Lines.{View, LineDone, LineRan, LineStopped, stand_in, beginning}
 use Rattle.rss_top.specs.declared.status.Status.{Status}
-use Rattle.rss_top.specs.declared.status.Status.TheVariants.{WriteFault, DeviceFault, NoMemory}
+use Rattle.rss_top.specs.declared.status.Status.TheVariants.{NoMemory}
+
+-- a run over moves is a play of them, and a run of the machine
+module _ {manner : Manner} (sound : IsSound manner) where
+  played_is_play : {disk : Disk} {first last : Point manner} {inputs : List Input} {made : Made} → Played disk first inputs made last → manner.Plays first.stand inputs made last.stand
+  played_is_play none = sound.none _
+  played_is_play (more run turn) = sound.more _ _ _ _ _ _ _ (played_is_play run) turn.move
+
+  pub played_is_run : {disk : Disk} {first last : Point manner} {inputs : List Input} {made : Made} → Played disk first inputs made last → Run first.stand.state made.turns last.stand.state
+  played_is_run run = sound.run _ _ _ _ (played_is_play run)
 
 -- later calls leave the run as it was
-pub played_later : {manner : Manner} {old new : Disk} {P : Pages → Type 0} {first : Point manner} {lines : List (List ℕ)} {made : Made} {until : Point manner} → Passes old new P → until.moment ≤ old.moment → Played old first lines made until
-    → Played new first lines made until
+played_later : {manner : Manner} {old new : Disk} {P : Pages → Type 0} {first : Point manner} {inputs : List Input} {made : Made} {until : Point manner} → Passes old new P → until.moment ≤ old.moment → Played old first inputs made until
+    → Played new first inputs made until
 played_later passes le none = none
 played_later {old = old} {new = new} {P = P} {until = until} passes le (more run turn) = more (played_later {P = P} passes (omega (arith, turn.moments.later)) run) (record {
   move = turn.move;
@@ -29,163 +38,229 @@ played_later {old = old} {new = new} {P = P} {until = until} passes le (more run
   after = λ image left. turn.after image ((passes.past until.moment image le).0 left);
 })
 
--- the moments of a line, seen from a later device
-turn_of : {manner : Manner} {earlier later : Disk} {old new : Stand manner.Memory} {line : List ℕ} {made : Made} → LineDone manner earlier later old line made new → ImagesNow later (HoldsAt new.state) → LineTurn later (point_now manner old earlier) line made (point_now manner new later)
+-- the moments of a move, seen from a later device
+turn_of : {manner : Manner} {earlier later : Disk} {old new : Stand manner.Memory} {input : Input} {made : Made} → LineDone manner earlier later old input made new → ImagesNow later (HoldsAt new.state) → LineTurn later (point_now manner old earlier) input made (point_now manner new later)
 turn_of done after = record {
   move = done.move;
   moments = record { later = done.moments.later; each = done.moments.each };
   after = after;
 }
 
-pub joined-push : (lines : List (List ℕ)) (line : List ℕ) → joined (lines ++ line ∷ []) ≡ joined lines ++ (line ++ 10 ∷ [])
-joined-push [] line = refl
-joined-push (l ∷ lines) line = ap (λ (x : List ℕ). l ++ 10 ∷ x) (joined-push lines line) ∙ sym (append_assoc l (10 ∷ joined lines) (line ++ 10 ∷ []))
+pub joined-append : (lines others : List (List ℕ)) → joined (lines ++ others) ≡ joined lines ++ joined others
+joined-append [] others = refl
+joined-append (l ∷ lines) others = ap (λ (x : List ℕ). l ++ 10 ∷ x) (joined-append lines others)
+    ∙ sym (append_assoc l (10 ∷ joined lines) (joined others))
 
-pub no_lines : (P : List ℕ → Type 0) → All P []
-no_lines P k d lt = absurd (omega arith)
+-- ---- the run so far
 
-pub no_bytes : IsUnbroken []
-no_bytes k d lt = absurd (omega arith)
+-- The lines of these bytes, each with its end; or all of a script, of which the last has none.
+abbrev pub AreTaken : Bool → List ℕ → List (List ℕ) → Type 0
+AreTaken false passed lines = Splits passed lines []
+AreTaken true passed lines = AreLines passed lines
 
-pub story_start : {manner : Manner} (stand : Stand manner.Memory) (world : World) (source : Stream) → ImagesNow world.disk (HoldsAt stand.state) → Story (beginning manner stand world source) world stand [] []
-story_start stand world source opens = record {
-  lines = [];
-  made = record { turns = []; text = [] };
+-- The lines of these bytes were taken, and the run has come to a state that is shown.
+pub record Stands {manner : Manner} (begin : Beginning manner) (now : View manner) (passed : List ℕ) (over : Bool) : Type 0 where
+  pub state : State
+  pub shows : now.shows state
+  pub inputs : List Input
+  pub made : Made
+  pub played : Played now.world.disk begin.point inputs made (point_now manner (stand_in now state) now.world.disk)
+  pub begun : begin.point.moment ≤ now.world.disk.moment
+  pub taken : AreTaken over passed (lines_in inputs)
+  pub takes : Takes begin.written made.text now.world.sink.bytes
+  pub opens : ImagesNow now.world.disk (HoldsAt state)
+
+pub stands_start : {manner : Manner} (view : View manner) (source : Stream) (state : State) → view.shows state → ImagesNow view.world.disk (HoldsAt state) → Stands (beginning manner (stand_in view state) view.world source) view [] false
+stands_start view source state shown opens = record {
+  state = state;
+  shows = shown;
+  inputs = [];
+  made = nothing;
   played = none;
   begun = omega arith;
-  splits = record { parts = refl; whole = no_lines IsUnbroken; front = no_bytes };
+  taken = record { parts = refl; whole = All-nil IsUnbroken; front = All-nil (λ (b : ℕ). b ≢ 10) };
   takes = takes_none _;
   opens = opens;
 }
 
--- more bytes of a line
-pub story_bytes : {manner : Manner} {begin : Beginning manner} {world : World} {stand : Stand manner.Memory} {given left : List ℕ} (bytes : List ℕ) → IsUnbroken bytes → Story begin world stand given left
-    → Story begin world stand (given ++ bytes) (left ++ bytes)
-story_bytes {left = left} bytes unbroken story = record {
-  lines = story.lines;
-  made = story.made;
-  played = story.played;
-  begun = story.begun;
-  splits = record {
-    parts = ap (λ (l : List ℕ). l ++ bytes) story.splits.parts ∙ append_assoc (joined story.lines) left bytes;
-    whole = story.splits.whole;
-    front = All-append (λ x. x ≢ 10) left bytes story.splits.front unbroken;
-  };
-  takes = story.takes;
-  opens = story.opens;
+-- a line behind whole ones
+behind_lines : {passed : List ℕ} {lines : List (List ℕ)} (line : List ℕ) → IsUnbroken line → Splits passed lines [] → Splits (passed ++ line) lines line
+behind_lines {lines = lines} line unbroken splits = record {
+  parts = ap (λ (l : List ℕ). l ++ line) splits.parts ∙ append_assoc (joined lines) [] line;
+  whole = splits.whole;
+  front = unbroken;
+}
+
+-- with the front of the next line
+pub front_story : {manner : Manner} {begin : Beginning manner} {now : View manner} {passed : List ℕ} (line : List ℕ) → IsUnbroken line → (stands : Stands begin now passed false) → Story begin now.world (stand_in now stands.state) (passed ++ line) line
+front_story line unbroken stands = record {
+  inputs = stands.inputs;
+  made = stands.made;
+  played = stands.played;
+  begun = stands.begun;
+  splits = behind_lines line unbroken stands.taken;
+  takes = stands.takes;
+  opens = stands.opens;
+}
+
+-- they are all the lines, where the script is over
+pub all_lines : (over : Bool) {passed : List ℕ} {lines : List (List ℕ)} → AreTaken over passed lines → AreLines passed lines
+all_lines false {lines = lines} taken = record { ended = lines; left = []; splits = taken; all = sym (append-nil lines) }
+all_lines true taken = taken
+
+-- ---- one move more
+
+module _ {manner : Manner} {begin : Beginning manner} {old : View manner} (new : View manner) {passed : List ℕ} {over : Bool} (stands : Stands begin old passed over) (history : Continues old.world.disk new.world.disk) where
+  played_before : Played new.world.disk begin.point stands.inputs stands.made (point_now manner (stand_in old stands.state) old.world.disk)
+  played_before = played_later {P = λ _. Unit {0}} history (omega arith) stands.played
+
+  -- by which these bytes were taken
+  pub stands_moved : {input : Input} (to : List ℕ) (after : Bool) → AreTaken after to (lines_in stands.inputs ++ lines_in (input ∷ []))
+      → LineRan old new stands.state input → Stands begin new to after
+  stands_moved {input = input} to after taken ran = record {
+    state = ran.next;
+    shows = ran.shows;
+    inputs = stands.inputs ++ input ∷ [];
+    made = both_made stands.made ran.made;
+    played = more played_before (turn_of ran.done ran.opens);
+    begun = omega (arith, stands.begun, ran.done.moments.later);
+    taken = subst (AreTaken after to) (sym (lines-append stands.inputs (input ∷ []))) taken;
+    takes = takes_then _ _ _ stands.made.text ran.made.text stands.takes ran.takes;
+    opens = ran.opens;
+  }
+
+-- the script is over, and no move is left
+pub whole_ended : {manner : Manner} {begin : Beginning manner} {now : View manner} {passed : List ℕ} {over : Bool} → IsSound manner → (stands : Stands begin now passed over) → Whole begin now.world passed
+whole_ended {now = now} {over = over} sound stands = record {
+  inputs = stands.inputs;
+  made = stands.made;
+  last = stand_in now stands.state;
+  run = played_is_run sound stands.played;
+  play = played_is_play sound stands.played;
+  played = stands.played;
+  are_lines = all_lines over stands.taken;
+  takes = stands.takes;
+  opens = stands.opens;
 }
 
 -- ---- one line more
 
-module _ {manner : Manner} {begin : Beginning manner} {old new : View manner} {state : State} {given left : List ℕ} (story : Story begin old.world (stand_in old state) given left) where
-  played_line : (ran : LineRan old new state left) → Played new.world.disk begin.point (story.lines ++ left ∷ []) (record { turns = story.made.turns ++ ran.made.turns; text = story.made.text ++ ran.made.text }) (point_now manner (stand_in new ran.next) new.world.disk)
-  played_line ran = more (played_later ran.done.moments (omega arith) story.played) (turn_of ran.done ran.opens)
+pub one_line : (left : List ℕ) → 0 < length left → last_line left ≡ left ∷ []
+one_line [] some = absurd (omega arith)
+one_line (b ∷ bs) some = refl
 
-  pub story_line : (ran : LineRan old new state left) → Story begin new.world (stand_in new ran.next) (given ++ 10 ∷ []) []
-  story_line ran = record {
-    lines = story.lines ++ left ∷ [];
-    made = record { turns = story.made.turns ++ ran.made.turns; text = story.made.text ++ ran.made.text };
-    played = played_line ran;
-    begun = omega (arith, story.begun, ran.done.moments.later);
-    splits = record {
-      parts = ap (λ (l : List ℕ). l ++ 10 ∷ []) story.splits.parts ∙ append_assoc (joined story.lines) left (10 ∷ []) ∙ sym (joined-push story.lines left) ∙ sym (append-nil (joined (story.lines ++ left ∷ [])));
-      whole = All-push IsUnbroken story.lines left story.splits.whole story.splits.front;
-      front = no_bytes;
-    };
-    takes = takes_then _ _ _ story.made.text ran.made.text story.takes ran.takes;
-    opens = ran.opens;
-  }
+module _ {passed : List ℕ} {lines : List (List ℕ)} (line : List ℕ) (unbroken : IsUnbroken line)
+    (splits : Splits passed lines []) where
+  pub taken_ended : AreTaken false ((passed ++ line) ++ 10 ∷ []) (lines ++ line ∷ [])
+  taken_ended =
+      let behind = behind_lines line unbroken splits in
+      record {
+        parts = ap (λ (l : List ℕ). l ++ 10 ∷ []) behind.parts ∙ append_assoc (joined lines) line (10 ∷ []) ∙ sym (joined-append lines (line ∷ [])) ∙ sym (append-nil (joined (lines ++ line ∷ [])));
+        whole = All-push IsUnbroken lines line splits.whole unbroken;
+        front = All-nil (λ (b : ℕ). b ≢ 10);
+      }
 
   -- the last line, which has no end
-  pub whole_line : IsSound manner → (left ≡ [] → ⊥) → LineRan old new state left → Whole begin new.world given
-  whole_line sound some ran = record {
-    lines = story.lines ++ left ∷ [];
-    made = record { turns = story.made.turns ++ ran.made.turns; text = story.made.text ++ ran.made.text };
-    last = stand_in new ran.next;
-    run = played_is_run sound (played_line ran);
-    play = played_is_play sound (played_line ran);
-    played = played_line ran;
-    are_lines = record { ended = story.lines; left = left; splits = story.splits; all = ap (λ (l : List (List ℕ)). story.lines ++ l) (sym (one_line left some)) };
-    takes = takes_then _ _ _ story.made.text ran.made.text story.takes ran.takes;
-    opens = ran.opens;
+  pub taken_last : 0 < length line → AreTaken true (passed ++ line) (lines ++ line ∷ [])
+  taken_last some = record {
+    ended = lines;
+    left = line;
+    splits = behind_lines line unbroken splits;
+    all = ap (λ (l : List (List ℕ)). lines ++ l) (sym (one_line line some));
   }
-    where
-      one_line : (left : List ℕ) → (left ≡ [] → ⊥) → last_line left ≡ left ∷ []
-      one_line [] some = absurd (some refl)
-      one_line (b ∷ bs) some = refl
 
--- no last line
-pub whole_ended : {manner : Manner} {begin : Beginning manner} {world : World} {stand : Stand manner.Memory} {given left : List ℕ} → IsSound manner → Story begin world stand given left → left ≡ [] → Whole begin world given
-whole_ended {stand = stand} {left = left} sound story over = record {
-  lines = story.lines;
-  made = story.made;
-  last = stand;
-  run = played_is_run sound story.played;
-  play = played_is_play sound story.played;
-  played = story.played;
-  are_lines = record { ended = story.lines; left = left; splits = story.splits; all = sym (ap (λ (l : List ℕ). story.lines ++ last_line l) over ∙ append-nil story.lines) };
-  takes = story.takes;
-  opens = story.opens;
-}
-
--- ---- the run ends within a line
-
-no_line_fault : IsLineFault NoMemory → ⊥
-no_line_fault (inl is) = cc
-no_line_fault (inr is) = cc
-
-module _ {manner : Manner} (old : View manner) (state : State) {begin : Beginning manner} {given left : List ℕ} (over : Type 0) (rest : List ℕ) (story : Story begin old.world (stand_in old state) given left) where
-  -- with what was written of its reply
-  stopped_in : (new : View manner) {P : Pages → Type 0} (status : Status) (said : List ℕ) → Passes old.world.disk new.world.disk P → (IsLineFault status → EndsLine over rest)
-      → Takes begin.written (story.made.text ++ said) new.world.sink.bytes → IsStoppedBy status new.world.disk (point_now manner (stand_in old state) old.world.disk) left said
-      → Stopped status begin new.world (given ++ rest) over
-  stopped_in new {P = P} status said passes ends takes stopped = record {
-    lines = story.lines;
-    made = story.made;
-    from = point_now manner (stand_in old state) old.world.disk;
-    line = left;
+  -- or a front of a line, within which the run ended
+  pub in_line : {given : List ℕ} {over : Type 0} {status : Status} (rest : List ℕ) → given ≡ (passed ++ line) ++ rest
+      → (IsLineFault status → EndsLine over rest) → IsInLine status given over lines line
+  in_line rest is ends = record {
     rest = rest;
-    said = said;
-    played = played_later {P = P} passes (omega arith) story.played;
-    parts = ap (λ (l : List ℕ). l ++ rest) story.splits.parts ∙ append_assoc (joined story.lines) left rest;
-    whole = story.splits.whole;
-    front = story.splits.front;
+    parts = is ∙ ap (λ (l : List ℕ). l ++ rest) (behind_lines line unbroken splits).parts ∙ append_assoc (joined lines) line rest;
+    whole = splits.whole;
+    front = unbroken;
     ends = ends;
-    takes = takes;
-    stopped = stopped;
   }
 
-  -- nothing was written of it
-  silent : {after : Option (List ℕ)} → after ≡ old.world.sink.bytes → Takes begin.written (story.made.text ++ []) after
-  silent same = subst (λ (o : Option (List ℕ)). Takes begin.written (story.made.text ++ []) o) (sym same) (subst (λ (l : List ℕ). Takes begin.written l old.world.sink.bytes) (sym (append-nil story.made.text)) story.takes)
+-- ---- the run ends within a move
 
-  pub stopped_by_memory : {new : View manner} → MemoryStopped old new state → Stopped NoMemory begin new.world (given ++ rest) over
-  stopped_by_memory {new = new} stop = stopped_in new NoMemory [] stop.moments (λ is. absurd (no_line_fault is)) (silent stop.same) (record {
-    moments = record { later = stop.moments.later; each = stop.moments.each };
-    opens = λ image left. ⊎_elim (λ earlier. (story.opens image earlier).opens) (λ within. within) (now stop.moments image left);
-    silent = refl;
-  })
+-- What was written of a move within which the run ended, and how it did.
+record Said {manner : Manner} (old new : View manner) (state : State) (input : Input) (status : Status) : Type 0 where
+  pub said : List ℕ
+  pub takes : Takes old.world.sink.bytes said new.world.sink.bytes
+  pub stopped : IsStoppedBy status new.world.disk (point_now manner (stand_in old state) old.world.disk) input said
 
-  pub stopped_by_line : (new : View manner) → EndsLine over rest → (status : Status) → LineStopped old new state left status → Stopped status begin new.world (given ++ rest) over
-  stopped_by_line new ends status stop = by_stop (λ s. Stopped s begin new.world (given ++ rest) over) status
-      (λ stop. stopped_in new DeviceFault [] stop.done.moments (λ _. ends) (silent stop.same) (record {
+said_by : {manner : Manner} (old new : View manner) (state : State) (input : Input) (status : Status)
+    → ImagesNow old.world.disk (HoldsAt state) → LineStopped old new state input status → Said old new state input status
+said_by old new state input status opens stop = by_stop (Said old new state input) status
+    (λ stop. record {
+      said = [];
+      takes = rw stop.same (takes_none _);
+      stopped = record {
         made = stop.made;
         next = stop.next;
         move = stop.done.move;
         moments = record { later = stop.done.moments.later; each = stop.done.moments.each };
-        opens = λ image left. ⊎_elim (λ earlier. inl (story.opens image earlier).opens) (λ within. within) (now stop.done.moments image left);
+        opens = λ image left. ⊎_elim (λ was. inl (opens image was).opens) (λ is. is) (now stop.done.moments image left);
         silent = refl;
-      }))
-      (λ stop. stopped_in new WriteFault stop.takes.front stop.done.moments (λ _. ends) (takes_then _ _ _ story.made.text stop.takes.front story.takes stop.takes.takes) (record {
+      };
+    })
+    (λ stop. record {
+      said = stop.takes.front;
+      takes = stop.takes.takes;
+      stopped = record {
         made = stop.made;
         next = stop.next;
         turn = turn_of stop.done stop.opens;
         unsaid = stop.takes.back;
         reply = stop.takes.parts;
-      }))
-      (λ stop. stopped_by_memory stop)
-      stop
+      };
+    })
+    (λ stop. record {
+      said = [];
+      takes = rw stop.same (takes_none _);
+      stopped = record {
+        moments = record { later = stop.moments.later; each = stop.moments.each };
+        opens = λ image left. ⊎_elim (λ was. (opens image was).opens) (λ within. within) (now stop.moments image left);
+        silent = refl;
+      };
+    })
+    (λ place never. absurd never)
+    stop
 
--- memory ran out before the line was run
-pub stopped_unread : {manner : Manner} (view : View manner) (state : State) {begin : Beginning manner} {given left : List ℕ} (over : Type 0) (rest : List ℕ) → Story begin view.world (stand_in view state) given left → Stopped NoMemory begin view.world (given ++ rest) over
-stopped_unread view state over rest story = stopped_by_memory view state over rest story {new = view} (record { moments = started _ _; same = refl })
+pub stopped_in : {manner : Manner} {begin : Beginning manner} {old : View manner} (new : View manner)
+    {passed given : List ℕ} {going : Bool} {over : Type 0} {input : Input} (stands : Stands begin old passed going)
+    → manner.Takes input → (status : Status) → Continues old.world.disk new.world.disk
+    → IsCutAt status given over (lines_in stands.inputs) input → LineStopped old new stands.state input status
+    → Stopped status begin new.world given over
+stopped_in {manner = manner} {old = old} new {input = input} stands may status history cut stop =
+    let said = said_by old new stands.state input status stands.opens stop in
+    record {
+      inputs = stands.inputs;
+      made = stands.made;
+      from = point_now manner (stand_in old stands.state) old.world.disk;
+      input = input;
+      said = said.said;
+      may = may;
+      played = played_before new stands history;
+      cut = cut;
+      takes = takes_then _ _ _ stands.made.text said.said stands.takes said.takes;
+      stopped = said.stopped;
+    }
+
+-- What was passed is followed by this; and by nothing, if the script is over.
+pub between : (going : Bool) {given : List ℕ} (passed rest : List ℕ) {lines : List (List ℕ)} {over : Type 0}
+    → given ≡ passed ++ rest → (going ≡ true → rest ≡ []) → (going ≡ true → over) → AreTaken going passed lines
+    → IsBetween given over lines
+between false passed rest {lines = lines} is empty all taken =
+    some_taken rest (is ∙ ap (λ (l : List ℕ). l ++ rest) (taken.parts ∙ append-nil (joined lines))) taken.whole
+between true passed rest {lines = lines} is empty all taken =
+    all_taken (rw (is ∙ ap (λ (l : List ℕ). passed ++ l) (empty refl) ∙ append-nil passed) taken) (all refl)
+
+-- memory ran out before a line was run
+pub stopped_unread : {manner : Manner} → IsSound manner → {begin : Beginning manner} {view : View manner} {given : List ℕ}
+    {over : Type 0} (passed rest : List ℕ) → given ≡ passed ++ rest → Stands begin view passed false
+    → Stopped NoMemory begin view.world given over
+stopped_unread sound {view = view} passed rest is stands =
+    let same = is ∙ ap (λ (l : List ℕ). l ++ rest) (sym (append-nil passed)) in
+    stopped_in view {input = Line []} stands (sound.lines []) NoMemory (started _ _)
+    (in_line [] (All-nil (λ (b : ℕ). b ≢ 10)) stands.taken rest same (λ fault. absurd (grind arith)))
+    (record { moments = started _ _; same = refl })

@@ -1,5 +1,5 @@
 -- Lines, while they are written one by one.
-use Rattle.std.proofs.Common.{◌≡◌, ℕ, ◌+◌, ◌<◌, ◌≤◌, List, [], ◌∷◌, ◌++◌, length, take, drop, refl, sym, ◌∙◌, ap, subst, arith, append_assoc}
+use Rattle.std.proofs.Common.{◌≡◌, ℕ, ◌+◌, ◌<◌, ◌≤◌, List, [], ◌∷◌, ◌++◌, length, take, drop, sym, ◌∙◌, ap, subst, arith, append_assoc}
 use Rattle.std.specs.Prelude.{slice_index_or}
 use Rattle.std.proofs.lemmas.List.{take_more, take-append-drop}
 use Rattle.rss_base.specs.Faults.{Rises}
@@ -9,7 +9,7 @@ use Rattle.rss_base.proofs.Moments.{rises_since}
 use Rattle.rss_model.specs.Script.{joined}
 use Rattle.rss_top.specs.Generated.{WritesLines}
 use Rattle.rss_top.specs.declared.status.Status.TheVariants.{WriteFault, NoMemory}
-use Rattle.rss_top.proofs.Stories.{joined-push}
+use Rattle.rss_top.proofs.Stories.{joined-append}
 
 -- so many of the lines were written
 pub record Wrote (lines : List (List ℕ)) (done : ℕ) (old now : Stream) : Type 0 where
@@ -22,14 +22,10 @@ wrote_lacks {lines = lines} done wrote = record {
   ends = record { first = take done lines; others = drop done lines; parts = sym (take-append-drop done lines); takes = wrote.takes };
 }
 
-joined-append : (lines others : List (List ℕ)) → joined (lines ++ others) ≡ joined lines ++ joined others
-joined-append [] others = refl
-joined-append (l ∷ lines) others = ap (λ (x : List ℕ). l ++ 10 ∷ x) (joined-append lines others) ∙ sym (append_assoc l (10 ∷ joined lines) (joined others))
-
 -- the next line
 module _ {lines : List (List ℕ)} {old now : Stream} (done : ℕ) (low : done < length lines) (line : List ℕ) (is : line ≡ slice_index_or lines done [] ++ 10 ∷ []) (wrote : Wrote lines done old now) where
   joined_next : joined (take (done + 1) lines) ≡ joined (take done lines) ++ line
-  joined_next = ap joined (take_more lines done [] low) ∙ joined-push (take done lines) (slice_index_or lines done []) ∙ ap (λ (l : List ℕ). joined (take done lines) ++ l) (sym is)
+  joined_next = ap joined (take_more lines done [] low) ∙ joined-append (take done lines) (slice_index_or lines done [] ∷ []) ∙ ap (λ (l : List ℕ). joined (take done lines) ++ l) (sym is)
 
   pub wrote_more : {new : Stream} → now.faults ≤ new.faults → Takes now.bytes line new.bytes → Wrote lines (done + 1) old new
   wrote_more {new = new} later takes = record {

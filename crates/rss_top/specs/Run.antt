@@ -12,7 +12,7 @@ use Rattle.rss_model.specs.Plays.{Made, nothing, both_made}
 use Rattle.rss_stored.specs.LogLaws.{IsRested}
 use Rattle.rss_stored.specs.Store.{Stored, IsStore, OpensTo, OpensIn, OpensToEither, HoldsState}
 use Rattle.rss_store.specs.Opening.{IsSpent}
-use Rattle.rss_top.specs.Manners.{Stand, Manner, first_stand}
+use Rattle.rss_top.specs.Manners.{Stand, Manner, Input, Line, Again, Over, lines_in, first_stand}
 use Rattle.rss_top.specs.declared.status.Status.{Status}
 use Rattle.rss_top.specs.declared.status.Status.TheVariants.{Ok, ReadFault, TooLong, WriteFault, DeviceFault, Damaged, NoMemory}
 
@@ -40,7 +40,7 @@ pub record Beginning (manner : Manner) : Type 0 where
   pub left : Option (List ℕ)
   pub written : Option (List ℕ)
 
--- ---- the lines of a run
+-- ---- the moves of a run
 
 -- the pages open to a state's committed tables
 abbrev pub OpensAt : State → Pages → Type 0
@@ -72,48 +72,48 @@ pub record Window (disk : Disk) (from until : ℕ) (P : Pages → Type 0) : Type
   pub later : from ≤ until
   pub each : (t : ℕ) (image : Pages) → from < t → t ≤ until → disk.images t image → P image
 
--- One line of a run. At its moments the pages open to the committed tables before or after it. At its
+-- One move of a run. At its moments the pages open to the committed tables before or after it. At its
 -- end they open to those after it alone; and where no change was made since the last checkpoint, and
 -- none undone, the state counts their overflow pages.
-pub record LineTurn {manner : Manner} (disk : Disk) (from : Point manner) (line : List ℕ)
+pub record LineTurn {manner : Manner} (disk : Disk) (from : Point manner) (input : Input)
     (made : Made) (until : Point manner) : Type 0 where
-  pub move : manner.Move from.stand line made until.stand
+  pub move : manner.Move from.stand input made until.stand
   pub moments : Window disk from.moment until.moment
       (OpensAtEither from.stand.state until.stand.state)
   pub after : ImagesAt until.moment disk (HoldsAt until.stand.state)
 
--- a run over lines
+-- a run over moves
 pub data Played {manner : Manner} (disk : Disk) (first : Point manner)
-    : List (List ℕ) → Made → Point manner → Type 0 where
+    : List Input → Made → Point manner → Type 0 where
   none : Played disk first [] nothing first
-  more : {lines : List (List ℕ)} {made : Made} {from : Point manner}
-      {line : List ℕ} {said : Made} {until : Point manner}
-      → Played disk first lines made from → LineTurn disk from line said until
-      → Played disk first (lines ++ line ∷ []) (both_made made said) until
+  more : {inputs : List Input} {made : Made} {from : Point manner}
+      {input : Input} {said : Made} {until : Point manner}
+      → Played disk first inputs made from → LineTurn disk from input said until
+      → Played disk first (inputs ++ input ∷ []) (both_made made said) until
 
 -- The run so far: the bytes given are the lines that were run, and then what is left of the next.
 pub record Story {manner : Manner} (begin : Beginning manner) (now : World)
     (stand : Stand manner.Memory) (given left : List ℕ) : Type 0 where
-  pub lines : List (List ℕ)
+  pub inputs : List Input
   pub made : Made
-  pub played : Played now.disk begin.point lines made (point_now manner stand now.disk)
+  pub played : Played now.disk begin.point inputs made (point_now manner stand now.disk)
   pub begun : begin.point.moment ≤ now.disk.moment
-  pub splits : Splits given lines left
+  pub splits : Splits given (lines_in inputs) left
   pub takes : Takes begin.written made.text now.sink.bytes
   pub opens : ImagesNow now.disk (HoldsAt stand.state)
 
 -- ---- how a run ends
 
--- over all the lines of a script, as a run of the machine and the play of the lines
+-- over all the lines of a script, as a run of the machine and the play of the moves
 pub record Whole {manner : Manner} (begin : Beginning manner) (now : World) (given : List ℕ)
     : Type 0 where
-  pub lines : List (List ℕ)
+  pub inputs : List Input
   pub made : Made
   pub last : Stand manner.Memory
   pub run : Run begin.point.stand.state made.turns last.state
-  pub play : manner.Plays begin.point.stand lines made last
-  pub played : Played now.disk begin.point lines made (point_now manner last now.disk)
-  pub are_lines : AreLines given lines
+  pub play : manner.Plays begin.point.stand inputs made last
+  pub played : Played now.disk begin.point inputs made (point_now manner last now.disk)
+  pub are_lines : AreLines given (lines_in inputs)
   pub takes : Takes begin.written made.text now.sink.bytes
   pub opens : ImagesNow now.disk (HoldsAt last.state)
 
@@ -124,40 +124,47 @@ pub record Halted {manner : Manner} (begin : Beginning manner) (now : World) (gi
   pub left : List ℕ
   pub story : Story begin now stand given left
 
--- The device failed within the line. Nothing is written of it, and a stop leaves the committed tables
--- before or after the line, at each of its moments and at the end.
+-- By the status with which a move ends a run: what is so if the device failed, if the sink failed, if
+-- memory ran out, and if damage was found. No move ends a run with another status.
+abbrev pub ByStop : Type 0 → Type 0 → Type 0 → Type 0 → Status → Type 0
+ByStop device sink memory damage DeviceFault = device
+ByStop device sink memory damage WriteFault = sink
+ByStop device sink memory damage NoMemory = memory
+ByStop device sink memory damage (Damaged place) = damage
+ByStop device sink memory damage status = ⊥
+
+-- The device failed within the move. Nothing is written of it, and a stop leaves the committed tables
+-- before or after the move, at each of its moments and at the end.
 pub record FailedInLine {manner : Manner} (disk : Disk) (from : Point manner)
-    (line said : List ℕ) : Type 0 where
+    (input : Input) (said : List ℕ) : Type 0 where
   pub made : Made
   pub next : Stand manner.Memory
-  pub move : manner.Move from.stand line made next
+  pub move : manner.Move from.stand input made next
   pub moments : Window disk from.moment disk.moment (OpensAtEither from.stand.state next.state)
   pub opens : ImagesNow disk (OpensAtEither from.stand.state next.state)
   pub silent : said ≡ []
 
--- The sink failed after the line was run, and has the front of what is written of it.
+-- The sink failed after the move was made, and has the front of what is written of it.
 pub record FailedInReply {manner : Manner} (disk : Disk) (from : Point manner)
-    (line said : List ℕ) : Type 0 where
+    (input : Input) (said : List ℕ) : Type 0 where
   pub made : Made
   pub next : Stand manner.Memory
-  pub turn : LineTurn disk from line made (point_now manner next disk)
+  pub turn : LineTurn disk from input made (point_now manner next disk)
   pub unsaid : List ℕ
   pub reply : made.text ≡ said ++ unsaid
 
--- Memory ran out in the line, which has changed no table. Nothing is written of it.
+-- Memory ran out in the move, which has changed no table. Nothing is written of it.
 pub record LackedMemory {manner : Manner} (disk : Disk) (from : Point manner) (said : List ℕ)
     : Type 0 where
   pub moments : Window disk from.moment disk.moment (OpensAt from.stand.state)
   pub opens : ImagesNow disk (OpensAt from.stand.state)
   pub silent : said ≡ []
 
--- within a line, by the status
-abbrev pub IsStoppedBy : {manner : Manner} → Status → Disk → Point manner → List ℕ → List ℕ
+-- within a move, by the status
+abbrev pub IsStoppedBy : {manner : Manner} → Status → Disk → Point manner → Input → List ℕ
     → Type 0
-IsStoppedBy DeviceFault disk from line said = FailedInLine disk from line said
-IsStoppedBy WriteFault disk from line said = FailedInReply disk from line said
-IsStoppedBy NoMemory disk from line said = LackedMemory disk from said
-IsStoppedBy status disk from line said = ⊥
+IsStoppedBy status disk from input said = ByStop (FailedInLine disk from input said)
+    (FailedInReply disk from input said) (LackedMemory disk from said) ⊥ status
 
 -- the device or the sink failed
 abbrev pub IsLineFault : Status → Type 0
@@ -168,29 +175,47 @@ abbrev pub EndsLine : Type 0 → List ℕ → Type 0
 EndsLine over [] = over
 EndsLine over (b ∷ rest) = b ≡ line_end
 
--- A run up to the line within which it ended, with what was written of it. over: all of the script
--- was given.
-pub record Stopped {manner : Manner} (status : Status) (begin : Beginning manner) (now : World)
-    (given : List ℕ) (over : Type 0) : Type 0 where
-  pub lines : List (List ℕ)
-  pub made : Made
-  pub from : Point manner
-  pub line : List ℕ
+-- The bytes given are the lines before, then this line or its front, and then the rest. over: all of
+-- the script was given.
+pub record IsInLine (status : Status) (given : List ℕ) (over : Type 0) (lines : List (List ℕ))
+    (line : List ℕ) : Type 0 where
   pub rest : List ℕ
-  pub said : List ℕ
-  pub played : Played now.disk begin.point lines made from
   pub parts : given ≡ joined lines ++ (line ++ rest)
   pub whole : All IsUnbroken lines
   pub front : IsUnbroken line
   pub ends : IsLineFault status → EndsLine over rest
+
+-- The bytes given are lines, and then the rest; or they are all the lines of the script.
+pub data IsBetween (given : List ℕ) (over : Type 0) (lines : List (List ℕ)) : Type 0 where
+  some_taken : (rest : List ℕ) → given ≡ joined lines ++ rest → All IsUnbroken lines
+      → IsBetween given over lines
+  all_taken : AreLines given lines → over → IsBetween given over lines
+
+-- where in a script a run ended, by the move within which it did
+abbrev pub IsCutAt : Status → List ℕ → Type 0 → List (List ℕ) → Input → Type 0
+IsCutAt status given over lines (Line line) = IsInLine status given over lines line
+IsCutAt status given over lines Again = IsBetween given over lines
+IsCutAt status given over lines Over = AreLines given lines × over
+
+-- A run up to the move within which it ended, with what was written of it.
+pub record Stopped {manner : Manner} (status : Status) (begin : Beginning manner) (now : World)
+    (given : List ℕ) (over : Type 0) : Type 0 where
+  pub inputs : List Input
+  pub made : Made
+  pub from : Point manner
+  pub input : Input
+  pub said : List ℕ
+  pub may : manner.Takes input
+  pub played : Played now.disk begin.point inputs made from
+  pub cut : IsCutAt status given over (lines_in inputs) input
   pub takes : Takes begin.written (made.text ++ said) now.sink.bytes
-  pub stopped : IsStoppedBy status now.disk from line said
+  pub stopped : IsStoppedBy status now.disk from input said
 
 -- the run ended between two lines, though the script did not
 abbrev pub IsHalt : Status → Type 0
 IsHalt status = (status ≡ ReadFault) ⊎ (status ≡ TooLong)
 
--- the run ended within a line
+-- the run ended within a move
 abbrev pub IsStop : Status → Type 0
 IsStop status = (status ≡ WriteFault) ⊎ (status ≡ DeviceFault) ⊎ (status ≡ NoMemory)
 

@@ -4,15 +4,15 @@ use Rattle.rss_base.specs.Faults.{Rises}
 use Rattle.rss_base.specs.Streams.{Stream, Takes, TakesFront, TakesLast}
 use Rattle.rss_base.specs.declared.place.Place.{Place}
 use Rattle.rss_model.specs.ReplyText.{damaged_line}
+use Rattle.rss_top.specs.Run.{ByStop}
 use Rattle.rss_top.specs.declared.status.Status.{Status}
 use Rattle.rss_top.specs.declared.status.Status.TheVariants.{WriteFault, Damaged, NoMemory}
 
 -- The line was written, or the sink failed with its front.
 abbrev pub IsWritten : {T : Type 0} → List ℕ → Stream → Stream → Result T Status → Type 0
 IsWritten line old new (Ok done) = Takes old.bytes line new.bytes
-IsWritten line old new (Err WriteFault) =
-    TakesFront old.bytes line new.bytes × Rises old.faults new.faults
-IsWritten line old new (Err status) = ⊥
+IsWritten line old new (Err status) =
+    ByStop ⊥ (TakesFront old.bytes line new.bytes × Rises old.faults new.faults) ⊥ ⊥ status
 
 pub record Writes {T : Type 0} (line : List ℕ) (old new : Stream) (result : Result T Status)
     : Type 0 where

@@ -3,7 +3,7 @@ use Rattle.std.specs.Prelude.{◌≡◌, ℕ, List, [], ◌∷◌, ◌++◌, ⊤
 use Rattle.rss_lines.specs.Lines.{line_end}
 use Rattle.rss_model.specs.Variables.{Variable}
 use Rattle.rss_model.specs.Plays.{Scene, Made, LineStep, Play}
-use Rattle.rss_top.specs.Manners.{Stand, Manner}
+use Rattle.rss_top.specs.Manners.{Stand, Manner, Input, Line, lines_in}
 
 -- Memory: what is remembered of lines. start: that of none. after: that behind one more.
 -- told: what is written of a line, which makes a turn and gets a reply.
@@ -42,6 +42,16 @@ pub record ToldMove (telling : Telling) (old : Stand (Kept telling.Memory)) (lin
   pub text : made.text ≡ telling.told old.memory.memory line said
   pub memory : new.memory.memory ≡ telling.after old.memory.memory said
 
+-- a move takes a line
+abbrev pub IsLine : Input → Type 0
+IsLine (Line line) = ⊤
+IsLine input = ⊥
+
+abbrev pub ToldInput : (telling : Telling) → Stand (Kept telling.Memory) → Input → Made
+    → Stand (Kept telling.Memory) → Type 0
+ToldInput telling old (Line line) made new = ToldMove telling old line made new
+ToldInput telling old input made new = ⊥
+
 -- Lines have a play, and this is written of it.
 pub record ToldPlays (telling : Telling) (first : Stand (Kept telling.Memory))
     (lines : List (List ℕ)) (made : Made) (last : Stand (Kept telling.Memory)) : Type 0 where
@@ -54,8 +64,9 @@ abbrev pub told_by : Telling → Manner
 told_by telling = record {
   Memory = Kept telling.Memory;
   start = record { names = []; memory = telling.start };
-  Move = ToldMove telling;
-  Plays = ToldPlays telling;
+  Takes = IsLine;
+  Move = ToldInput telling;
+  Plays = λ first inputs made last. ToldPlays telling first (lines_in inputs) made last;
 }
 
 -- ---- as `run` tells: the replies

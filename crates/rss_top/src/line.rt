@@ -35,10 +35,14 @@ pub fn tell_line<E: Engine, T: Teller, K: Sink>(
     let Ok(()) = teller.prepare(line, text) else {
         return Err(Status::NoMemory);
     };
-    let heard = hear(engine, alloc, names, line)?;
-    teller.tell(line, &heard, text);
-    write_text(text.as_slice(), sink)?;
-    Ok(())
+    let got = hear(engine, alloc, names, line);
+    match &got {
+        Ok(heard) => {
+            teller.tell(line, heard, text);
+            write_text(text.as_slice(), sink)
+        }
+        Err(status) => Err(*status),
+    }
 }
 
 /// Runs one line: makes its call, and then writes its reply.

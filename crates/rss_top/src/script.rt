@@ -1,5 +1,5 @@
 // A script, run over the store of a device.
-ghost use Rattle.std.specs.Prelude.{◌≡◌, ◌+◌, ◌≤◌};
+ghost use Rattle.std.specs.Prelude.{◌≡◌, ◌+◌, ◌*◌, ◌≤◌};
 ghost use Rattle.rss_lines.specs.Lines.{script_limit};
 ghost use Rattle.rss_stored.specs.Calls.{calls_most};
 ghost use Rattle.rss_top.specs.Lines.{seen, on, RunsScript};
@@ -24,8 +24,9 @@ fn run_store<O: Source, K: Sink, D: Driver>(
     sink: &mut K,
 ) -> Status
     requires up { (D.view driver.old).is_up }
-    requires few { (D.view driver.old).calls + script_limit ≤ calls_most }
-    ensures runs { RunsScript
+    requires few { (D.view driver.old).calls + (D.view driver.old).owed
+        + D.rate * script_limit ≤ calls_most }
+    ensures runs { RunsScript D.rate
         (seen (D.view driver.old) (K.view sink.old))
         (seen (D.view driver.new) (K.view sink.new))
         (O.view source.old) (O.view source.new) result }

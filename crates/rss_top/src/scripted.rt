@@ -65,6 +65,9 @@ impl<E: Engine, T: Teller> Driver for Scripted<E, T> {
 
     ghost sound = { told_sound T.telling T.is_telling };
 
+    /// A line makes one call at most.
+    ghost rate = { 1 };
+
     fn keeps(&self) -> usize {
         self.teller.keeps()
     }
@@ -79,5 +82,14 @@ impl<E: Engine, T: Teller> Driver for Scripted<E, T> {
             &mut self.text,
             sink,
         )
+    }
+
+    /// A line is told at once, so none is left to be run.
+    fn go_on<K: Sink>(&mut self, sink: &mut K) -> Result<bool, Status> {
+        Ok(false)
+    }
+
+    fn finish<K: Sink>(&mut self, sink: &mut K) -> Result<bool, Status> {
+        Ok(false)
     }
 }

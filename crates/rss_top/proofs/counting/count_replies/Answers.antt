@@ -1,6 +1,5 @@
 use Rattle.std.proofs.Common.{arith}
-use Rattle.rss_top.proofs.Counted.{counted_more, tally_last}
-use Rattle.rss_top.proofs.Pieces.{line_within}
+use Rattle.rss_top.proofs.Counted.{line_within, counted_more, tally_last}
 use Rattle.rss_top.proofs.counting.count_replies.Goals as goal
 
 pub loop-at-preserved : goal.loop-at-preserved

@@ -18,10 +18,16 @@ pub returns-in_default : goal.returns-in_default
 returns-in_default g c = hears_nothing _ _ _ _
 
 pub returns-in_err-answer-in-Ok-Call : goal.returns-in_err-answer-in-Ok-Call
-returns-in_err-answer-in-Ok-Call g c = hears_status _ _ _ (c.read_line.ensures.call _ _ (c.in-Ok-Call.is ∙ ap Ok c.in-Ok-Call.field-0-is)) _ _ c.from_residual.ensures.1 c.in_err-answer-in-Ok-Call.ensures
+returns-in_err-answer-in-Ok-Call g c =
+    let spells = c.read_line.ensures.call _ _ (c.in-Ok-Call.is ∙ ap Ok c.in-Ok-Call.field-0-is) in
+    hears_status _ _ _ spells _ _ c.from_residual.ensures.1 c.in_err-answer-in-Ok-Call.ensures
 
 pub returns-in_ok-answer-in-Ok-Call : goal.returns-in_ok-answer-in-Ok-Call
-returns-in_ok-answer-in-Ok-Call g c = hears_answer _ _ _ (c.read_line.ensures.call _ _ (c.in-Ok-Call.is ∙ ap Ok c.in-Ok-Call.field-0-is)) (c.bind_answer.ensures ∙ ap (λ (l : List Variable). bound l c.in-Ok-Call.bind c.in_ok-answer-in-Ok-Call.answer) c.make_place.ensures.same) c.in_ok-answer-in-Ok-Call.ensures
+returns-in_ok-answer-in-Ok-Call g c =
+    let spells = c.read_line.ensures.call _ _ (c.in-Ok-Call.is ∙ ap Ok c.in-Ok-Call.field-0-is) in
+    let answer = c.in_ok-answer-in-Ok-Call.answer in
+    let same = ap (λ (l : List Variable). bound l c.in-Ok-Call.bind answer) c.make_place.ensures.same in
+    hears_answer _ _ _ spells (c.bind_answer.ensures ∙ same) c.in_ok-answer-in-Ok-Call.ensures
 
 pub returns-in-Err-Words : goal.returns-in-Err-Words
 returns-in-Err-Words g c = hears_words (g.E.Engine.view c.args.engine.now) c.requires.up c.args.names.now.variables (c.read_line.ensures.words (c.in-Err-Words.is ∙ ap Err c.in-Err-Words.field-0-is))

@@ -1,5 +1,4 @@
-use Rattle.std.proofs.Common.{map, refl, ◌∙◌, ap, subst}
-use Rattle.std.specs.Prelude.{Some, string_bytes}
+use Rattle.std.proofs.Common.{map, refl, ◌∙◌, ap, subst, Some, string_bytes}
 use Rattle.rss_words.specs.Words.{Reads}
 use Rattle.rss_top.specs.Programs.IsProgram.{formats, generates, tries}
 use Rattle.rss_top.proofs.Commands.{untouched, all_written, unread_ends}

@@ -1,12 +1,43 @@
+use Rattle.std.proofs.Common.{◌≡◌, ◌⊎◌, inl, inr, ⊎_elim, ℕ, List, Some, refl}
+use Rattle.rss_base.specs.DiskRule.{Pages}
+use Rattle.rss_base.specs.Faults.{Rises}
+use Rattle.rss_base.specs.Streams.{Stream}
+use Rattle.rss_model.specs.Machine.{StoreSize}
+use Rattle.rss_stored.specs.Store.{OpensTo}
+use Rattle.rss_model.specs.Tables.{Tables}
+use Rattle.rss_stored.proofs.Stores.{store_unbroken}
+use Rattle.rss_top.specs.Run.{World}
+use Rattle.rss_top.specs.Trial.{TellsTrial}
+use Rattle.rss_top.specs.Programs.{IsRunEnd, with_sink}
+use Rattle.rss_top.proofs.Endings.{not_too_long, by_said}
+use Rattle.rss_top.specs.declared.status.Status.{Status}
+use Rattle.rss_top.specs.declared.status.Status.TheVariants.{Ok, ReadFault, WriteFault, DeviceFault, NotAStore, Damaged, NoMemory}
 use Rattle.rss_top.specs.Lines.{on}
 use Rattle.rss_top.specs.GeneratedScript.{view_of as script_of}
 use Rattle.rss_device.specs.MemSink.{view_of as replies_of}
 use Rattle.rss_top.proofs.ScriptSize.{generated_short}
-use Rattle.rss_top.proofs.Trials.{ends_short, completes_trial}
 use Rattle.rss_top.proofs.trial.run_trial.Goals as goal
 
+-- over a store, where neither device nor sink fails
+module _ (old new : World) (sink_old sink_new source_old source_new : Stream) (replies : List ℕ) {status : Status} {pages : Pages} {size : StoreSize} {tables : Tables}
+    (told : old.disk.contents ≡ Some pages) (opens : OpensTo pages size tables)
+    (sink : Rises old.sink.faults new.sink.faults → ⊥) (device : Rises old.faults new.faults → ⊥) where
+  completes_trial : (ran : Status) → IsRunEnd (with_sink old sink_old) (with_sink new sink_new) source_old source_new ran → TellsTrial ran replies status old.sink new.sink → (status ≡ Ok) ⊎ (status ≡ NoMemory)
+  completes_trial Ok cause tells = by_said (λ s. (s ≡ Ok) ⊎ (s ≡ NoMemory)) tells.says
+      (λ _. inl refl) (λ front rises. absurd (sink rises)) (λ silent. inr refl)
+  completes_trial (NotAStore place) cause tells = absurd (store_unbroken opens place (cause.0 pages told))
+  completes_trial (Damaged place) cause tells = absurd (⊎_elim
+      (λ turned. turned.why size tables opens)
+      (λ found. found.none size tables opens)
+      (cause pages told))
+  completes_trial DeviceFault cause tells = absurd (device cause)
+  completes_trial ReadFault cause tells = inr tells.same_status
+  completes_trial WriteFault cause tells = inr tells.same_status
+  completes_trial NoMemory cause tells = inr tells.same_status
+  completes_trial ran cause tells = absurd tells
+
 pub tell-status-requires-clause-short : goal.tell-status-requires-clause-short
-tell-status-requires-clause-short g c = ends_short _ c.new-script.ensures (generated_short c.args.number c.args.count c.requires.few) c.run_script-ran.ensures
+tell-status-requires-clause-short g c = not_too_long _ c.new-script.ensures (generated_short c.args.number c.args.count c.requires.few) c.run_script-ran.ensures.taken
 
 pub returns : goal.returns
 returns g c =

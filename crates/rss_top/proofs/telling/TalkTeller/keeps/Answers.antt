@@ -1,4 +1,4 @@
-use Rattle.rss_top.proofs.Kept.{talking_enough}
+use Rattle.rss_top.proofs.HeardLines.{talking_enough}
 use Rattle.rss_top.proofs.telling.TalkTeller.keeps.Goals as goal
 
 pub returns-clause-enough : goal.returns-clause-enough
