@@ -218,6 +218,10 @@ meets() {
     : >replies
     report "$3, where $2 while the run waited" "$faults$(faults_of "$first_status" 10 "" before)"
 }
+# A page that is out of form at the opening.
+cp many a && turn_header && mv a turned
+check turned '"$rss" run a <commit' 5 "not a store page 1 home 0" turned
+
 for line in 'fetch 1 r 0.0' "insert 1 r $short" "update 1 r 0.0 $short" 'delete 1 r 0.0'; do
     meets turn_header 'the header of the home page was turned' "$line"
     meets turn_entry 'its entry was turned' "$line"

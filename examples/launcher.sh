@@ -277,7 +277,7 @@ echo "stop 7" >script && ends 7 "the script has 2^30 bytes or more" \
 echo "stop 10" >script && ends 10 "there: the store is damaged: something else has changed it" \
     "go back to a copy; what stands at the place that is named is in checkout/docs/STORE.md" run there <script
 ends 4 "none: no such file" "to make it a store, checkout/rss format none 64 8" run none <script
-ends 5 "hello: not a store, or none of this kind: its layout is out of form; nothing was written to it" \
+ends 5 "hello: not a store, or none of this kind: the place that is named is out of form; nothing was written to it" \
     "if it was one, go back to a copy; to make it an empty one, checkout/rss format hello 64 8" run hello <script
 ends 3 "standard output failed" "the store is made" format a 64 8
 ends 3 "standard output failed" "each line that has its reply was run, and the next one may have been" talk there

@@ -14,11 +14,11 @@ enum {
     RSS_OK = 0,
     RSS_WRITE_FAULT = 3,    /* the text failed, as one without room for a line does */
     RSS_DEVICE_FAULT = 4,   /* the store's device failed, or a step is gone that wasn't taken */
-    RSS_NOT_A_STORE = 5,    /* the layout of the bytes is out of form; the text tells the place */
+    RSS_NOT_A_STORE = 5,    /* the bytes are found to be no store; the text tells the place */
     RSS_NO_MEMORY = 6,
     RSS_TOO_LONG = 7,       /* 2^32 - 2 calls were made since the opening */
     RSS_WRONG_SIZE = 8,     /* no store has so many slots and log pages */
-    RSS_DAMAGED = 10,       /* something was found that no store has; the text ends with the place */
+    RSS_DAMAGED = 10,       /* the log or a line shows that they are none; the text ends with the place */
     RSS_NOT_OPEN = 20,      /* no store is open in the handle */
     RSS_ALREADY_OPEN = 21,  /* a store is open in the handle already */
     RSS_STOPPED = 22,       /* an earlier line ended with a status other than 0 */

@@ -52,7 +52,7 @@ class DeviceFault(Ended, number=4):
 
 
 class NotAStore(Ended, number=5):
-    """The layout of the file is out of form. The text names the place."""
+    """The file holds no store. The text names the place."""
 
 
 class NoMemory(Ended, number=6):
@@ -68,7 +68,7 @@ class WrongSize(Ended, number=8):
 
 
 class Damaged(Ended, number=10):
-    """Something was found that no store has. The text names the place."""
+    """Something was found that no store has, in the log or by a line. The text names the place."""
 
 
 class Refused(Error):

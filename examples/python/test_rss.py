@@ -275,7 +275,7 @@ class Ends(Case):
         data = self.path.read_bytes()
         at = data.index(b"\x01" + number.to_bytes(8, "big"))
         self.path.write_bytes(data[:at] + b"\xff" + data[at + 1 :])
-        with self.assertRaisesRegex(rss.Damaged, "^damaged "):
+        with self.assertRaisesRegex(rss.NotAStore, "^not a store tuple "):
             LIBRARY.open(self.path)
 
 

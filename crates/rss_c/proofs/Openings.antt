@@ -12,27 +12,15 @@ use Rattle.rss_device.specs.StepDevice.{view_of}
 use Rattle.rss_device.specs.declared.step_device.StepDevice.{StepDevice}
 use Rattle.rss_model.specs.Tables.{no_tables}
 use Rattle.rss_stored.specs.Store.{OpensTo}
-use Rattle.rss_stored.proofs.Stores.{store_unbroken}
 use Rattle.rss_check.specs.Refused.{IsRefused, IsUnopened}
+use Rattle.rss_check.proofs.Refused.{found_none, unopened_memory}
 use Rattle.rss_store.specs.Formatted.{AreSizes}
 use Rattle.rss_c.specs.Stores.{FailsFor, HasFailed, IsUnmade}
 use Rattle.rss_c.specs.declared.open_store.Refused.{Refused}
 
 -- memory may run out over any pages
-lacks : (device : DeviceView) → IsUnopened device NoMemory
-lacks device = record {
-  refused = λ pages told. record {
-    broken = λ place is. absurd (cc (is));
-    names = λ place is. inr (inr refl);
-    no_store = λ place is. absurd (cc (is));
-    only_overfull = λ is. absurd (cc (is));
-    overfull = λ is. inr (inr refl);
-  };
-  right_size = λ is. cc (is);
-}
-
 pub lacks_over : (device : DeviceView) (fault : OpenFault) → fault ≡ NoMemory → IsUnopened device fault
-lacks_over device fault is = subst (λ (f : OpenFault). IsUnopened device f) (sym is) (lacks device)
+lacks_over device fault is = subst (λ (f : OpenFault). IsUnopened device f) (sym is) (unopened_memory device)
 
 -- a count that rose later has risen from the beginning
 failed_since : (faults : ℕ) (back : Option StepDevice) → HasFailed faults back → HasFailed 0 back
@@ -48,7 +36,7 @@ module _ {slots log_pages : ℕ} {pages : Pages} (opens : OpensTo pages (record 
   only_fails DeviceFailed refused right = inr refl
   only_fails NoMemory refused right = inl refl
   only_fails WrongSize refused right = absurd (right refl)
-  only_fails (NotAStore place) refused right = absurd (store_unbroken opens place (refused.broken place refl))
+  only_fails (NotAStore place) refused right = absurd (found_none (refused.named place refl) opens.stored opens.store)
   only_fails (Damaged place) refused right = absurd (refused.no_store place refl opens.stored opens.store)
 
 -- it was made, and isn't opened

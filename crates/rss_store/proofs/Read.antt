@@ -4,6 +4,7 @@ use Rattle.std.specs.Prelude.{is_some, Result}
 use Rattle.std.proofs.lemmas.Bool.{and_parts, leb-true, cond-false, false_from_ne_true}
 use Rattle.rss_base.specs.declared.key.Space.TheVariants.{System}
 use Rattle.rss_base.specs.declared.key.PageKey.{PageKey}
+use Rattle.rss_base.specs.declared.place.Place.{Place}
 use Rattle.rss_base.specs.declared.root.Root.{Root}
 use Rattle.rss_base.specs.declared.fault.PageFault.{PageFault}
 use Rattle.rss_base.specs.Devices.{OnlyReads}
@@ -22,14 +23,18 @@ use Rattle.rss_buffer.specs.Saving.{SavingView, AreSaveable, IsFresh}
 use Rattle.rss_buffer.proofs.SavingSteps.{fresh_unchanged}
 use Rattle.rss_catalog.specs.Catalogs.{CatalogView}
 use Rattle.rss_log.specs.Logs.{LogView}
-use Rattle.rss_model.specs.Fits.{Fits, IsIdentifier}
+use Rattle.rss_model.specs.Fits.{IsIdentifier}
 use Rattle.rss_stored.specs.Store.{SpellsTables, AreNodesWithin, Stored, IsStore}
 use Rattle.rss_stored.proofs.ListedOnce.{listing_once}
 use Rattle.rss_stored.proofs.Stores.{one_root, one_map}
 use Rattle.rss_access.specs.Changes.{both, HasTables as SomeTables}
+use Rattle.rss_check.specs.Faults.{IsFirstFault, ArePassed}
 use Rattle.rss_check.specs.Layouts.{IsLayout, HasLayout, IsLogRead, HasLogBytes}
-use Rattle.rss_check.specs.Looks.{HoldsTables as PagesHoldTables, HoldsNone, FindsTables}
-use Rattle.rss_check.specs.Refused.{IsNoStore}
+use Rattle.rss_check.specs.Lines.{Links}
+use Rattle.rss_check.specs.Looks.{HoldsTables as PagesHoldTables, FindsTables}
+use Rattle.rss_check.specs.Passed.{IsViewOf}
+use Rattle.rss_check.specs.Refused.{IsFoundAt, IsEarlyPlace}
+use Rattle.rss_check.proofs.Refused.{found_at}
 use Rattle.rss_store.specs.Stores.{StoreView, IsReady, IsSaved}
 use Rattle.rss_store.specs.Opening.{IsReadFrom, IsFreeSlot, HasTables, ReadsFrom}
 use Rattle.rss_store.proofs.Places.{held_slots, store_fixed}
@@ -130,16 +135,24 @@ module _ {root : Root} {number frames writes : ℕ} {owners : List (Option PageK
     listing_here : (told : IsTold old.disk) (stored : Stored) → IsStore told.pages stored → HoldsListing old.held stored.listing
     listing_here told stored store = subst (λ (h : Held). HoldsListing h stored.listing) (slots_hold told) (store_here told stored store).system
 
-    -- where they hold no tables, they are no store
-    pub lacks_tables : (told : IsTold old.disk) → HoldsNone old.held old.slots → IsNoStore told.pages
-    lacks_tables told none stored store =
-        let is = store_here told stored store in
-        none stored.listing stored.saved (listing_here told stored store)
-        (subst (λ (h : Held). SpellsTables h stored.listing stored.saved) (slots_hold told) is.spells)
-        (subst (λ (n : ℕ). AreNodesWithin n old.held stored.listing) (sym size_is) (subst (λ (h : Held). AreNodesWithin root.slots h stored.listing) (slots_hold told) is.nodes))
-        (subst (λ (n : ℕ). Fits n stored.saved) (sym size_is) is.fit)
+    -- the pages in memory are those of the device
+    view_read : (told : IsTold old.disk) → IsViewOf told.pages old
+    view_read told = record {
+      laid = record { number = number; root = root; owners = owners; there = holds told.pages told.is };
+      slots = size_is;
+      held = sym (slots_hold told);
+    }
 
-    module _ {T : Type 0} {noted : Keys} {asks : ℕ} {catalog : CatalogView} {new : PagesView} {result : Result T PageFault} {log : LogView} (did : ChecksPages noted asks old new result) (finds : FindsTables old new catalog) (counted : AreCounted new) (read : IsLogRead root log) (bytes : Told old.disk (λ pages. HasLogBytes pages root log)) where
+    -- so what a look finds there is found in these
+    pub found_read : {place : Place} (told : IsTold old.disk) → (IsTold old.disk → IsEarlyPlace place)
+        → (IsTold old.disk → (pages : Pages) → IsViewOf pages old → IsFirstFault pages place)
+        → IsFoundAt told.pages place
+    found_read told early first = found_at (early told) (first told told.pages (view_read told))
+
+    module _ {T : Type 0} {noted : Keys} {asks : ℕ} {catalog : CatalogView} {new : PagesView} {result : Result T PageFault}
+        {log : LogView} (did : ChecksPages noted asks old new result) (finds : FindsTables old new catalog)
+        (passes : IsTold old.disk → (pages : Pages) → IsViewOf pages old → ArePassed pages Links) (counted : AreCounted new)
+        (read : IsLogRead root log) (bytes : Told old.disk (λ pages. HasLogBytes pages root log)) where
       -- the store in memory
       abbrev pub read_view : StoreView
       read_view = record { pages = new; catalog = catalog; log = log; root = root; number = number }
@@ -238,6 +251,9 @@ module _ {root : Root} {number frames writes : ℕ} {owners : List (Option PageK
           there = holds pages told;
           same = fixed_same (subst (λ (f : Fixed). HasFixed f image) (fixed_now (record { pages = pages; is = told })) fixed);
         };
+        passed = λ pages told.
+            let known : IsTold old.disk = record { pages = pages; is = told } in
+            passes known pages (view_read known);
         tables = λ pages told. spelled (record { pages = pages; is = told });
         read = λ pages told stored store. read_from (record { pages = pages; is = told }) stored store;
       }

@@ -1,11 +1,11 @@
 -- A device that is handed back, and what an opening passes on, both seen from an earlier moment.
-use Rattle.std.proofs.Common.{◌≡◌, inl, inr, ⊎_elim, ℕ, ◌<◌, List, Option, refl, sym, ◌∙◌, ap, subst, arith}
+use Rattle.std.proofs.Common.{◌≡◌, inl, inr, ⊎_elim, ℕ, ◌<◌, List, Option, sym, ◌∙◌, ap, subst, arith}
 use Rattle.std.specs.Prelude.{Some, Result, Ok, Err}
 use Rattle.rss_base.specs.Answers.{open_error}
 use Rattle.rss_base.specs.declared.fault.OpenFault.{OpenFault}
-use Rattle.rss_base.specs.declared.fault.OpenFault.TheVariants.{Device as DeviceFailed, Damaged}
+use Rattle.rss_base.specs.declared.fault.OpenFault.TheVariants.{Device as DeviceFailed}
 use Rattle.rss_base.specs.declared.fault.PageFault.{PageFault}
-use Rattle.rss_base.specs.declared.fault.PageFault.TheVariants.{Device as PageDevice, Damaged as PageDamaged, NoMemory as PageNoMemory}
+use Rattle.rss_base.specs.declared.fault.PageFault.TheVariants.{Damaged as PageDamaged}
 use Rattle.rss_base.specs.declared.key.PageKey.{PageKey}
 use Rattle.rss_base.specs.declared.place.Place.{Place}
 use Rattle.rss_base.specs.declared.place.Place.TheVariants.{Room, Log as LogPlace}
@@ -20,10 +20,10 @@ use Rattle.rss_stored.specs.Store.{Stored}
 use Rattle.rss_stored.specs.LogLaws.{IsRested}
 use Rattle.rss_stored.proofs.Stores.{one_root}
 use Rattle.rss_check.specs.Layouts.{HasLayout, position_most}
-use Rattle.rss_check.specs.Refused.{IsNoStore, IsUnopened}
-use Rattle.rss_check.proofs.Refused.{layout_room, layout_unbroken, refused_fault, fault_no_size, fault_device, fault_damaged, fault_has_layout, unopened_after}
+use Rattle.rss_check.specs.Refused.{IsNoStore, IsEarlyPlace, IsUnopened}
+use Rattle.rss_check.proofs.Refused.{layout_room, found_passed, refused_fault, fault_no_size, fault_device, fault_damaged, fault_has_layout, unopened_after}
 use Rattle.rss_store.specs.Stores.{StoreView}
-use Rattle.rss_store.specs.Opening.{IsSpent, PassesOpening, IsEarlyRefusal, IsHandedBack, IsReadFrom, FindsDamage, Begins, ReadsFrom, OpensStore}
+use Rattle.rss_store.specs.Opening.{IsSpent, PassesOpening, IsHandedBack, IsReadFrom, FindsDamage, Begins, ReadsFrom, OpensStore}
 
 -- ---- a layout that is sound
 
@@ -67,8 +67,7 @@ handed_back refused cause reads = record {
   refused = refused;
   cause = cause;
   passes = passes_reading reads;
-  reads = λ is told. reads;
-  no_layout = λ place is. reads;
+  reads = λ place is. reads;
   broken = λ place pages told broken. reads;
   overfull = λ pages told over. reads;
   spent = λ pages told is. reads;
@@ -81,8 +80,7 @@ handed_before {old = old} {mid = mid} reads is = record {
   refused = unopened_after reads is.refused;
   cause = λ failed. rises_since reads.later (is.cause failed);
   passes = passes_before reads is.passes;
-  reads = λ refusal told. reads_then reads (is.reads refusal (record { pages = told.pages; is = reads.contents ∙ told.is }));
-  no_layout = λ place is_at. reads_then reads (is.no_layout place is_at);
+  reads = λ place named. reads_then reads (is.reads place named);
   broken = λ place pages told broken. reads_then reads (is.broken place pages (reads.contents ∙ told) broken);
   overfull = λ pages told over. reads_then reads (is.overfull pages (reads.contents ∙ told) over);
   spent = λ pages told spent. reads_then reads (is.spent pages (reads.contents ∙ told) spent);
@@ -124,8 +122,7 @@ handed_sized size is = record {
   refused = is.refused;
   cause = is.cause;
   passes = passes_sized size is.passes;
-  reads = λ refusal told. sized_reads size (is.reads refusal told);
-  no_layout = λ place is_at. sized_reads size (is.no_layout place is_at);
+  reads = λ place named. sized_reads size (is.reads place named);
   broken = λ place pages told broken. sized_reads size (is.broken place pages told broken);
   overfull = λ pages told over. sized_reads size (is.overfull pages told over);
   spent = λ pages told spent. sized_reads size (is.spent pages told spent);
@@ -161,7 +158,7 @@ opens_store read begins rested = record {
   early = omega (arith, read.early, read.saved.log, begins.appends);
   begins = λ pages told stored store. begins.begins stored (read.read pages told stored store);
   passes = passes_begun read begins rested;
-  unbroken = λ place pages told. layout_unbroken (read.layout pages told) place;
+  unbroken = λ place pages told found. found_passed (read.passed pages told) found;
   not_overfull = λ pages told. layout_room (read.layout pages told) read.half;
   not_spent = λ pages told. layout_unspent (read.layout pages told) read.early;
   tables = read.tables;
@@ -175,27 +172,28 @@ module _ {T : Type 0} {old : DeviceView} {mid new : StoreView} (fault : PageFaul
   no_store : (pages : Pages) → old.disk.contents ≡ Some pages → (place : Place) → fault ≡ PageDamaged place → IsNoStore pages
   no_store pages told place is stored store = (damage place is (record { pages = pages; is = told })).why stored (read.read pages told stored store)
 
-  at_log : IsTold old.disk → (place : Place) → fault ≡ PageDamaged place → (place ≡ Room → ⊥) × (IsEarlyRefusal (Damaged place) → ⊥)
-  at_log told place is =
-      let at = (damage place is told).at in
-      ((λ room. let clash : LogPlace at.at ≡ Room = sym at.is ∙ room in cc (clash)), (λ early. subst (λ (p : Place). IsEarlyRefusal (Damaged p)) at.is early))
+  at_log : (place : Place) → fault ≡ PageDamaged place → IsTold old.disk → IsEarlyPlace place → ⊥
+  at_log place is told early = subst IsEarlyPlace (damage place is told).at.is early
 
-  not_early : (f : PageFault) → fault ≡ f → IsTold old.disk → IsEarlyRefusal (open_error f) → ⊥
-  not_early PageDevice is told early = early
-  not_early (PageDamaged place) is told early = (at_log told place is).1 early
-  not_early PageNoMemory is told early = early
+  not_room : (pages : Pages) → old.disk.contents ≡ Some pages → (place : Place) → fault ≡ PageDamaged place
+      → place ≡ Room → ⊥
+  not_room pages told place is room =
+      let at = (damage place is (record { pages = pages; is = told })).at in
+      let clash : LogPlace at.at ≡ Room = sym at.is ∙ room in cc (clash)
 
   pub refuses_store : ((stored : Stored) → IsReadFrom stored mid → IsRested stored → OnlyReads (device_below mid.pages) (device_below new.pages)) → IsHandedBack old (device_below new.pages) (open_error fault)
   refuses_store rested = record {
     refused = record {
-      refused = λ pages told. refused_fault fault (read.layout pages told) read.half (no_store pages told) (λ place is. (at_log (record { pages = pages; is = told }) place is).0);
+      refused = λ pages told.
+          refused_fault fault (layout_room (read.layout pages told) read.half) (read.passed pages told)
+          (no_store pages told) (not_room pages told);
+      late = λ place is. at_log place (fault_damaged fault place is);
       right_size = fault_no_size fault;
     };
     cause = λ failed. rises_since read.reads.later (begins.failed (ap Err (fault_device fault failed)));
     passes = passes_begun read begins rested;
-    reads = λ early told. absurd (not_early fault refl told early);
-    no_layout = λ place is. absurd (fault_has_layout fault place is);
-    broken = λ place pages told broken. absurd (layout_unbroken (read.layout pages told) place broken);
+    reads = λ place is. absurd (fault_has_layout fault place is);
+    broken = λ place pages told found. absurd (found_passed (read.passed pages told) found);
     overfull = λ pages told over. absurd (layout_room (read.layout pages told) read.half over);
     spent = λ pages told is. absurd (layout_unspent (read.layout pages told) read.early is);
     tables = λ pages told none. absurd (none (read.tables pages told));

@@ -1,5 +1,5 @@
 -- What an opening finds on a device, and the store to which it leads.
-use Rattle.std.specs.Prelude.{◌≡◌, ◌⊎◌, ℕ, ◌+◌, ◌*◌, ◌-◌, ◌<◌, ◌≤◌, min, List, [], Option, Some, None, Result, Err, IsErrOf, OnOk, ⊤}
+use Rattle.std.specs.Prelude.{◌≡◌, ◌⊎◌, ℕ, ◌+◌, ◌*◌, ◌-◌, ◌<◌, ◌≤◌, min, List, [], Option, Some, None, Result, Err, IsErrOf, OnOk}
 use Rattle.rss_base.specs.declared.fault.OpenFault.{OpenFault}
 use Rattle.rss_base.specs.declared.fault.OpenFault.TheVariants.{Device as DeviceFailed, NotAStore, Damaged}
 use Rattle.rss_base.specs.declared.fault.PageFault.{PageFault}
@@ -27,14 +27,16 @@ use Rattle.rss_model.specs.Machine.{StoreSize, State, IsAtRest}
 use Rattle.rss_model.specs.Kept.{IsMetered, HasLogRoom}
 use Rattle.rss_stored.specs.LogLaws.{IsRested}
 use Rattle.rss_model.specs.Spares.{listed_bound, live_of}
-use Rattle.rss_stored.specs.Store.{Stored, IsStore, OpensIn, IsBrokenAt, IsOverfull, size_of}
+use Rattle.rss_stored.specs.Store.{Stored, IsStore, OpensIn, IsOverfull, size_of}
 use Rattle.rss_access.specs.Changes.{both}
 use Rattle.rss_access.specs.Written.{heap_now, AreWritten}
 use Rattle.rss_restart.specs.Opened.{IsOpened}
 use Rattle.rss_restart.specs.Surveys.{IsLogPlace}
+use Rattle.rss_check.specs.Faults.{ArePassed}
 use Rattle.rss_check.specs.Layouts.{HasLayout, position_most}
+use Rattle.rss_check.specs.Lines.{Links}
 use Rattle.rss_check.specs.Looks.{HoldsTables as PagesHoldTables}
-use Rattle.rss_check.specs.Refused.{IsUnopened}
+use Rattle.rss_check.specs.Refused.{IsFoundAt, IsUnopened}
 use Rattle.rss_store.specs.Stores.{StoreView, IsReady, IsSaved}
 use Rattle.rss_store.specs.Shown.{HoldsTables, Shows}
 
@@ -165,21 +167,13 @@ pub record HasNamed (pages image : Pages) : Type 0 where
   pub there : HasLayout pages root number owners
   pub same : SameOff (IsFreeSlot root owners) pages image
 
--- the device is refused, at no place of its log
-abbrev pub IsEarlyRefusal : OpenFault → Type 0
-IsEarlyRefusal (NotAStore place) = ⊤
-IsEarlyRefusal (Damaged (LogPlace position)) = ⊥
-IsEarlyRefusal (Damaged place) = ⊤
-IsEarlyRefusal fault = ⊥
-
--- It is handed back. One that tells its contents comes back as it was if it is refused, but that a failure of it was counted; refused at a place of its log, it may have been written in free slots. One whose layout is out of form, whose map has too many pages, whose log's positions are used up, or whose pages spell no tables, is only read, whatever came of it.
+-- It is handed back. If it is named as no store, it was only read. So was one whose pages are no store by the lines up to the links, whose map has too many pages, whose log's positions are used up, or whose pages spell no tables, whatever came of it. One that is damaged at a place of its log may have been written in free slots.
 pub record IsHandedBack (old back : DeviceView) (fault : OpenFault) : Type 0 where
   pub refused : IsUnopened old fault
   pub cause : fault ≡ DeviceFailed → Rises old.faults back.faults
   pub passes : PassesOpening old back
-  pub reads : IsEarlyRefusal fault → IsTold old.disk → OnlyReads old back
-  pub no_layout : (place : Place) → fault ≡ NotAStore place → OnlyReads old back
-  pub broken : (place : Place) → Told old.disk (λ pages. IsBrokenAt place pages
+  pub reads : (place : Place) → fault ≡ NotAStore place → OnlyReads old back
+  pub broken : (place : Place) → Told old.disk (λ pages. IsFoundAt pages place
       → OnlyReads old back)
   pub overfull : Told old.disk (λ pages. IsOverfull pages → OnlyReads old back)
   pub spent : Told old.disk (λ pages. IsSpent pages → OnlyReads old back)
@@ -189,7 +183,7 @@ pub record IsHandedBack (old back : DeviceView) (fault : OpenFault) : Type 0 whe
 
 -- ---- a store that was read, and one that was opened
 
--- The store in memory is as it was read from a device, which was only read.
+-- The store in memory is as it was read from a device, which was only read. The lines up to the links are broken nowhere.
 pub record ReadsFrom (old : DeviceView) (new : StoreView) : Type 0 where
   pub ready : IsReady new
   pub saved : IsSaved new
@@ -200,11 +194,12 @@ pub record ReadsFrom (old : DeviceView) (new : StoreView) : Type 0 where
       HasLayout pages new.root new.number new.pages.backing.shadow)
   pub named : Told old.disk (λ pages. (image : Pages) → HasFixed new.pages.fixed image
       → HasNamed pages image)
+  pub passed : Told old.disk (λ pages. ArePassed pages Links)
   pub tables : Told old.disk HasTables
   pub read : Told old.disk (λ pages. (stored : Stored) → IsStore pages stored
       → IsReadFrom stored new)
 
--- The store is open. The device's pages are out of form nowhere, and spell tables; and where they are a store, that is where it begins.
+-- The store is open. The device's pages are at no place found to be no store, and spell tables; and where they are a store, that is where it begins.
 pub record OpensStore (old : DeviceView) (new : StoreView) : Type 0 where
   pub ready : IsReady new
   pub saved : IsSaved new
@@ -213,7 +208,7 @@ pub record OpensStore (old : DeviceView) (new : StoreView) : Type 0 where
   pub begins : Told old.disk (λ pages. (stored : Stored) → IsStore pages stored
       → BeginsIn stored new)
   pub passes : PassesOpening old (device_below new.pages)
-  pub unbroken : (place : Place) → Told old.disk (λ pages. IsBrokenAt place pages → ⊥)
+  pub unbroken : (place : Place) → Told old.disk (λ pages. IsFoundAt pages place → ⊥)
   pub not_overfull : Told old.disk (λ pages. IsOverfull pages → ⊥)
   pub not_spent : Told old.disk (λ pages. IsSpent pages → ⊥)
   pub tables : Told old.disk HasTables

@@ -9,6 +9,7 @@ ghost use Rattle.rss_buffer.specs.Devices.{device_of};
 ghost use Rattle.rss_stored.specs.LogLaws.{IsRested};
 ghost use Rattle.rss_stored.specs.Store.{Stored};
 ghost use Rattle.rss_check.specs.Layouts.{IsLayout, HasLayout, IsLogRead, HasLogBytes, position_most};
+ghost use Rattle.rss_check.specs.Refused.{look_error};
 ghost use Rattle.rss_store.specs.Stores.{IsReady, IsSaved};
 ghost use Rattle.rss_store.specs.Opening.{RestsAt, NamesNone, IsReadFrom, Begins};
 ghost use Rattle.rss_store.specs.Opening.{IsHandedBack, ReadsFrom, OpensStore, HasFrames};
@@ -22,6 +23,18 @@ use rss_log::Log;
 use rss_restart::restart;
 use rss_tuple::Store;
 use std::alloc::Global;
+
+/// The fault of an opening whose look has failed so. What the look finds is no store, also on a
+/// device that tells nothing.
+fn fault_of_look(fault: PageFault) -> OpenFault
+    ensures { result ≡ look_error fault }
+{
+    match fault {
+        PageFault::Device => OpenFault::Device,
+        PageFault::Damaged(place) => OpenFault::NotAStore(place),
+        PageFault::NoMemory => OpenFault::NoMemory,
+    }
+}
 
 /// The store whose layout was read, with its pages in a buffer of so many frames, if they hold
 /// tables.
@@ -59,7 +72,7 @@ fn store_of<D: Device>(
         Err(fault) => {
             return Err(Unopened {
                 device: tuples.into_pages().into_device(),
-                fault: OpenFault::from(fault),
+                fault: fault_of_look(fault),
             });
         }
     };
@@ -163,15 +176,16 @@ fn refused<D: Device>(store: DurableStore<Buffer<D>>, fault: PageFault) -> Unope
 /// to those that the log recovers, and takes a checkpoint of them. If the log ends with its
 /// Checkpoint record and that names no transaction, it writes nothing.
 ///
-/// The device is handed back if it holds no store. `NotAStore` names the first place at which the
-/// layout of the device, of its root or of its map is out of form. If the layout is sound it is
-/// `Damaged`: at `Room` if the map has too many pages, and at `Catalog` if a page of the system
-/// space isn't in form. It is at a page or a tuple that is none of a store. It is at `Count` if a
-/// relation hasn't as many tuples as the catalog says, or has more than it may have, and at `Image`
-/// if an image hasn't the entries of its relation's tuples. It is at a position of the log at which
-/// no record stands that there should be, or one that doesn't fit the tables. It is also at one
-/// from which the records lead to more pages than there may be. A store whose log ends at 2^62 or
-/// later is sound, but there are no positions for what more is logged: the answer is `NoMemory`.
+/// The device is handed back if it holds no store. All but the log is looked through before anything
+/// is written, line by line: the layout, the system pages and what they define, heap pages, their
+/// entries, counts, images and links. `NotAStore` names the first place at which a line is broken,
+/// and on a device that tells nothing what the look finds.
+///
+/// After such a look it is `Damaged` at a position of the log. No record stands there that there
+/// should be, or one that doesn't fit the tables; or the records from there on lead to more pages
+/// than there may be. A map with more pages than half the slots is `Damaged` at `Room`, and isn't
+/// looked through. A store whose log ends at 2^62 or later is sound, but there are no positions for
+/// what more is logged: the answer is `NoMemory`.
 pub fn open<D: Device>(
     alloc: Global,
     device: D,

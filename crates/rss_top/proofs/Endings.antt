@@ -177,7 +177,7 @@ says_some {text = text} {old = old} {new = new} line = by_said (λ _. TakesSome 
     (λ front rises. record { said = front.front; takes = front.takes })
     (λ silent. subst (λ (s : Stream). TakesSome old.bytes s.bytes) (sym silent) (some_none old.bytes))
 
--- a refusal of the layout tells of no damage
+-- what a look found is told as no damage
 pub tells_no_damage : {place : Place} {status : Status} {text : List ℕ} {old new : Stream} → Says (NotAStore place) text status old new → TellsDamage status old new
 tells_no_damage {old = old} {new = new} line = by_said (λ (s : Status). TellsDamage s old new) line
     (λ _. record { last = λ other is. absurd (cc) })

@@ -4,22 +4,23 @@ use Rattle.rss_base.specs.DiskRule.{Disk, Pages, Told, IsTold, Leaves, Passes, C
 use Rattle.rss_base.specs.Devices.{DeviceView, OnlyReads}
 use Rattle.rss_base.proofs.Flows.{gives_none, some_none, some_then}
 use Rattle.rss_base.specs.declared.place.Place.{Place}
-use Rattle.rss_base.specs.declared.place.Place.TheVariants.{Log as LogPlace, Room}
+use Rattle.rss_base.specs.declared.place.Place.TheVariants.{Room}
 use Rattle.rss_base.specs.declared.fault.OpenFault.{OpenFault}
-use Rattle.rss_base.specs.declared.fault.OpenFault.TheVariants.{Device as DeviceFailed, NotAStore as NoLayout, Damaged as NoStore, NoMemory as LacksMemory}
+use Rattle.rss_base.specs.declared.fault.OpenFault.TheVariants.{Device as DeviceFailed, NotAStore as NotFit, Damaged as NoStore, NoMemory as LacksMemory}
 use Rattle.std.specs.FinMap as map
 use Rattle.rss_model.specs.Meter.{at_rest}
 use Rattle.rss_model.specs.Tables.{Tables}
 use Rattle.rss_model.specs.Machine.{StoreSize, State, IsAtRest}
 use Rattle.rss_model.specs.ReplyText.{not_a_store_line, damaged_line}
-use Rattle.rss_stored.specs.Store.{Stored, IsStore, OpensTo, OpensIn, IsBrokenAt, IsNoStore, overflow_pages, size_of}
+use Rattle.rss_stored.specs.Store.{Stored, IsStore, OpensTo, OpensIn, IsOverfull, IsNoStore, overflow_pages, size_of}
 use Rattle.rss_model.specs.Runs.{Turn, Run}
 use Rattle.rss_model.specs.Serial.{serial, RunsSerially}
 use Rattle.rss_model.proofs.Serially.{is_serial}
 use Rattle.rss_stored.proofs.LogPlaced.{stores_fit}
-use Rattle.rss_store.specs.Opening.{MayLeave as StoreLeaves, PassesOpening, IsEarlyRefusal, IsHandedBack}
+use Rattle.rss_store.specs.Opening.{MayLeave as StoreLeaves, PassesOpening, IsHandedBack}
 use Rattle.rss_rsi.specs.Opening.{BeginsIn, IsOpened}
-use Rattle.rss_stored.proofs.Stores.{store_unbroken}
+use Rattle.rss_check.specs.Refused.{IsFoundAt}
+use Rattle.rss_check.proofs.Refused.{found_once, found_none}
 use Rattle.rss_base.specs.Streams.{Stream}
 use Rattle.rss_top.specs.Run.{World, Window, Ended, EndedSerially, IsStop, IsFailedOpening, MayLeave, BeginsAt, ImagesAt, IsRun}
 use Rattle.rss_top.specs.Run.IsRun.{unopened, opened}
@@ -159,24 +160,19 @@ opening_rest opens = record { idle = record { same_size = refl; committed = refl
 left_alone : {device back : DeviceView} {sink_old sink_new source : Stream} → OnlyReads device back → IsLeftAlone (on device sink_old) (on back sink_new) source source
 left_alone reads = record { unread = refl; writes = reads.same_writes; moments = reads.moments }
 
--- a refusal at no position of the log comes before anything is written
-comes_early : (place : Place) → ((position : ℕ) → place ≡ LogPlace position → ⊥) → IsEarlyRefusal (NoStore place)
-comes_early (LogPlace position) off = absurd (off position refl)
-comes_early place off = tt
-
--- the place that a fault of the layout has, and that of a map of too many pages
-named_place : {fault : OpenFault} {place other : Place} → fault ≡ NoLayout place → (fault ≡ NoLayout other) ⊎ (fault ≡ DeviceFailed) ⊎ (fault ≡ LacksMemory) → place ≡ other
-named_place is named = grind arith
-
+-- the place that a map of too many pages has
 named_room : {fault : OpenFault} {place : Place} → fault ≡ NoStore place → (fault ≡ NoStore Room) ⊎ (fault ≡ DeviceFailed) ⊎ (fault ≡ LacksMemory) → place ≡ Room
 named_room is named = grind arith
 
--- neither is the other
-no_room : {fault : OpenFault} {place : Place} → fault ≡ NoLayout place → (fault ≡ NoStore Room) ⊎ (fault ≡ DeviceFailed) ⊎ (fault ≡ LacksMemory) → ⊥
+-- neither it nor what a look finds is the other
+no_room : {fault : OpenFault} {place : Place} → fault ≡ NotFit place → (fault ≡ NoStore Room) ⊎ (fault ≡ DeviceFailed) ⊎ (fault ≡ LacksMemory) → ⊥
 no_room is named = grind arith
 
-no_place : {fault : OpenFault} {place other : Place} → fault ≡ NoStore place → (fault ≡ NoLayout other) ⊎ (fault ≡ DeviceFailed) ⊎ (fault ≡ LacksMemory) → ⊥
-no_place is named = grind arith
+only_over : {Over : Type 0} {fault : OpenFault} {place other : Place} → fault ≡ NoStore place → (fault ≡ NotFit other) ⊎ (fault ≡ DeviceFailed) ⊎ (fault ≡ LacksMemory) ⊎ Over → Over
+only_over is (inl named) = absurd (cc)
+only_over is (inr (inl failed)) = absurd (cc)
+only_over is (inr (inr (inl lacks))) = absurd (cc)
+only_over is (inr (inr (inr over))) = over
 
 module _ (manner : Manner) {device back : DeviceView} {fault : OpenFault} (handed : IsHandedBack device back fault) where
   -- what a stop leaves of a store, by a state in which it would be opened
@@ -209,7 +205,7 @@ module _ (manner : Manner) {device back : DeviceView} {fault : OpenFault} (hande
         record {
           run = λ size tables pages told opens. unopened_from told opens failed silent;
           complete = λ size tables pages told opens script given short faultless. complete faultless;
-          broken = λ place pages told broken. record { alone = left_alone (handed.broken place pages told broken); refusal = refusal (NotAStore place) };
+          broken = λ place pages told found. inl (record { alone = left_alone (handed.broken place pages told found); refusal = refusal (NotAStore place) });
           overfull = λ pages told over. record { alone = left_alone (handed.overfull pages told over); refusal = refusal (Damaged Room) };
           no_tables = λ pages told none. record { place = Room; refused = inl (record { alone = left_alone (handed.tables pages told none); refusal = refusal (NotAStore Room) }) };
           spent = λ pages told spent. left_alone (handed.spent pages told spent);
@@ -226,24 +222,27 @@ module _ (manner : Manner) {device back : DeviceView} {fault : OpenFault} (hande
     pub lacked_opening : sink_new ≡ sink_old → IsScriptRun manner NoMemory before after source source
     lacked_opening same = unopened_ends (inr refl) (ap (λ (s : Stream). s.bytes) same) (λ meant. says (record { later = omega (arith, ap (λ (s : Stream). s.faults) same); how = unsaid refl same })) tt (λ faultless. inr refl)
 
-    -- the layout is out of form at this place
-    module _ {place : Place} {status : Status} (is : fault ≡ NoLayout place) (line : Says (NotAStore place) (not_a_store_line place) status sink_old sink_new) where
-      broken_there : Told device.disk (IsBrokenAt place)
-      broken_there pages told = (handed.refused.refused pages told).broken place is
+    -- a look found no store at this place
+    module _ {place : Place} {status : Status} (is : fault ≡ NotFit place) (line : Says (NotAStore place) (not_a_store_line place) status sink_old sink_new) where
+      found_there : Told device.disk (λ pages. IsFoundAt pages place)
+      found_there pages told = (handed.refused.refused pages told).named place is
 
-      no_layout : IsRefused (NotAStore place) status before after source source
-      no_layout = record { alone = left_alone (handed.no_layout place is); refusal = says line }
+      none_there : Told device.disk IsNoStore
+      none_there pages told size tables opens = found_none (found_there pages told) opens.stored opens.store
 
-      pub layout_refused : IsScriptRun manner status before after source source
-      layout_refused = record {
-        run = λ size tables pages told opens. absurd (store_unbroken opens place (broken_there pages told));
-        complete = λ size tables pages told opens. absurd (store_unbroken opens place (broken_there pages told));
-        broken = λ other pages told there. subst (λ (p : Place). IsRefused (NotAStore p) status before after source source) (named_place is ((handed.refused.refused pages told).names other there)) no_layout;
+      refused_there : IsRefused (NotAStore place) status before after source source
+      refused_there = record { alone = left_alone (handed.reads place is); refusal = says line }
+
+      pub look_refused : IsScriptRun manner status before after source source
+      look_refused = record {
+        run = λ size tables pages told opens. absurd (none_there pages told size tables opens);
+        complete = λ size tables pages told opens. absurd (none_there pages told size tables opens);
+        broken = λ other pages told found. inl (subst (λ (p : Place). IsRefused (NotAStore p) status before after source source) (found_once (found_there pages told) found) refused_there);
         overfull = λ pages told over. absurd (no_room is ((handed.refused.refused pages told).overfull over));
-        no_tables = λ pages told none. record { place = place; refused = inl no_layout };
+        no_tables = λ pages told none. record { place = place; refused = inl refused_there };
         spent = λ pages told spent. left_alone (handed.spent pages told spent);
         cause = by_said (IsRunEnd before after source source) line
-            (λ takes. (broken_there, record { alone = no_layout.alone; refusal = says (record { later = line.later; how = said refl takes }) }))
+            (λ takes. (found_there, record { alone = refused_there.alone; refusal = says (record { later = line.later; how = said refl takes }) }))
             (λ front rises. rises)
             (λ silent. tt);
         taken = taken_cut [] (gives_none source.bytes) (omega arith) (said_is_cut (layout_is_cut place) line);
@@ -257,9 +256,10 @@ module _ (manner : Manner) {device back : DeviceView} {fault : OpenFault} (hande
           let known = (handed.refused.refused pages told) in
           record {
             why = none_opens is pages told;
+            late = handed.refused.late place is (record { pages = pages; is = told });
             over = λ room. known.only_overfull (is ∙ ap NoStore room);
             unread = refl;
-            alone = λ off. left_alone (handed.reads (subst IsEarlyRefusal (sym is) (comes_early place off)) (record { pages = pages; is = told }));
+            alone = λ room. left_alone (handed.overfull pages told (known.only_overfull (is ∙ ap NoStore room)));
             keeps = λ position at. handed.keeps position (is ∙ ap NoStore at) pages told;
           }
 
@@ -267,7 +267,7 @@ module _ (manner : Manner) {device back : DeviceView} {fault : OpenFault} (hande
       store_refused = record {
         run = λ size tables pages told opens. absurd (none_opens is pages told size tables opens);
         complete = λ size tables pages told opens. absurd (none_opens is pages told size tables opens);
-        broken = λ other pages told there. absurd (no_place is ((handed.refused.refused pages told).names other there));
+        broken = λ other pages told found. inr (only_over is ((handed.refused.refused pages told).names other found));
         overfull = λ pages told over. subst (λ (p : Place). IsRefused (Damaged p) status before after source source) (named_room is ((handed.refused.refused pages told).overfull over)) (record { alone = left_alone (handed.overfull pages told over); refusal = says line });
         no_tables = λ pages told none. record { place = place; refused = inr (record { alone = left_alone (handed.tables pages told none); refusal = says line }) };
         spent = λ pages told spent. left_alone (handed.spent pages told spent);

@@ -10,7 +10,8 @@ use Rattle.rss_model.specs.Generator.{generated}
 use Rattle.rss_model.specs.Machine.{StoreSize, State, IsAtRest}
 use Rattle.rss_model.specs.ReplyText.{not_a_store_line, damaged_line}
 use Rattle.rss_model.specs.Script.{joined}
-use Rattle.rss_stored.specs.Store.{OpensTo, IsBrokenAt, IsOverfull, IsNoStore}
+use Rattle.rss_stored.specs.Store.{OpensTo, IsOverfull, IsNoStore}
+use Rattle.rss_check.specs.Refused.{IsFoundAt, IsEarlyPlace}
 use Rattle.rss_store.specs.Formatted.{AreSizes}
 use Rattle.rss_store.specs.Opening.{HasTables, IsSpent, HasNamed}
 use Rattle.rss_words.specs.Words.{AreOnFile, AreFormat, AreGenerate, AreTrial, IsCommand}
@@ -71,31 +72,31 @@ pub record IsRunFrom (manner : Manner) (Begins : State → Type 0) (status : Sta
   pub begins : Begins first
   pub run : IsRun manner status first old new left_old left_new
 
--- The opening called these pages damaged at this place: they are no store, and it is their map that
--- leaves no room where that is told. The script isn't read.
--- The device is left alone, but where no store is refused at a position of the log; and then too each
--- stop leaves all that the selected root names.
+-- The opening called these pages damaged, at a place of their log or of too many pages: they are no
+-- store, and their map leaves no room where that is told. The script isn't read.
+-- Of too many pages the device is left alone. At a position of the log each stop leaves all that the
+-- selected root names.
 pub record IsTurnedAway (place : Place) (pages : Pages) (old new : World)
     (source_old source_new : Stream) : Type 0 where
   pub why : IsNoStore pages
+  pub late : IsEarlyPlace place → ⊥
   pub over : place ≡ Room → IsOverfull pages
   pub unread : source_new ≡ source_old
-  pub alone : ((position : ℕ) → place ≡ LogPlace position → ⊥)
-      → IsLeftAlone old new source_old source_new
+  pub alone : place ≡ Room → IsLeftAlone old new source_old source_new
   pub keeps : (position : ℕ) → place ≡ LogPlace position
       → Passes old.disk new.disk (λ image. Leaves old.disk image ⊎ HasNamed pages image)
 
--- A line found the damage: the pages are no store, though their layout is sound.
+-- A line found the damage: the pages are no store, though the opening found them so at no place.
 pub record IsFoundDamaged (pages : Pages) : Type 0 where
   pub none : IsNoStore pages
-  pub unbroken : (place : Place) → IsBrokenAt place pages → ⊥
+  pub unbroken : (place : Place) → IsFoundAt pages place → ⊥
   pub not_overfull : IsOverfull pages → ⊥
 
--- The cause of a status. A layout is refused by the place at which it is out of form, and only
--- pages that are no store are called damaged.
+-- The cause of a status. The device is refused by the first place at which it is found to be no store,
+-- and only pages that are no store are called damaged.
 abbrev pub IsRunEnd : World → World → Stream → Stream → Status → Type 0
 IsRunEnd old new source_old source_new (NotAStore place) =
-    Told old.disk (IsBrokenAt place)
+    Told old.disk (λ pages. IsFoundAt pages place)
     × IsRefused (NotAStore place) (NotAStore place) old new source_old source_new
 IsRunEnd old new source_old source_new (Damaged place) =
     Told old.disk (λ pages.
@@ -121,9 +122,9 @@ pub record IsScriptRun (manner : Manner) (status : Status) (old new : World)
       → (script : List ℕ) → source_old.bytes ≡ Some script → length script < script_limit
       → IsFaultless old new source_old source_new
       → (status ≡ Ok) ⊎ (status ≡ NoMemory))
-  -- A layout that is out of form.
-  pub broken : (place : Place) → Told old.disk (λ pages. IsBrokenAt place pages
-      → IsRefused (NotAStore place) status old new source_old source_new)
+  -- Pages that are no store, by the lines of a check up to the links.
+  pub broken : (place : Place) → Told old.disk (λ pages. IsFoundAt pages place
+      → IsRefused (NotAStore place) status old new source_old source_new ⊎ IsOverfull pages)
   -- A map of more pages than half the slots.
   pub overfull : Told old.disk (λ pages. IsOverfull pages
       → IsRefused (Damaged Room) status old new source_old source_new)

@@ -33,10 +33,10 @@ pub fn run<O: Source, K: Sink, D: Device>(
     // Over an honest device that holds a store of these tables: the run is one of the relation
     // machine from these tables with nothing open. At each moment of it a stop leaves a store with
     // the machine's committed tables, and before its first line one of these tables or what a stop
-    // could leave at entry. A device whose layout is out of form is refused, and a store whose log's
-    // positions are used up is left alone. One that is formatted reads as an empty store, and a stop
-    // leaves nothing else. A script that is generated is written whole, or run and its replies
-    // counted, where nothing fails.
+    // could leave at entry. A device that holds no store, by all but its log, is refused before
+    // anything is written, and a store whose log's positions are used up is left alone. One that is
+    // formatted reads as an empty store, and a stop leaves nothing else. A script that is generated
+    // is written whole, or run and its replies counted, where nothing fails.
     ensures program { IsProgram (map string_bytes words.now) result.0
         (on (D.view device) (K.view sink.old))
         (on (D.view result.1) (K.view sink.new))

@@ -19,9 +19,9 @@ pub enum Status {
     WriteFault,
     /// The device failed.
     DeviceFault,
-    /// The device holds no store: its layout is out of form.
+    /// The device holds no store. A look before anything is written finds it here first.
     NotAStore(Place),
-    /// The device holds no store, though its layout is sound.
+    /// The device holds no store, by its log or for too many pages, or a line found it so.
     Damaged(Place),
     /// Memory ran out, or the positions of the store's log are used up.
     NoMemory,

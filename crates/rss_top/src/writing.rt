@@ -50,7 +50,7 @@ pub fn refuse_layout<K: Sink>(alloc: Global, place: Place, sink: &mut K) -> Stat
     end_with(Status::NotAStore(place), line.as_slice(), sink)
 }
 
-/// Writes the line of a device whose layout is sound, and that is damaged.
+/// Writes the line of a device that is damaged.
 pub fn refuse_damaged<K: Sink>(alloc: Global, place: Place, sink: &mut K) -> Status
     ensures { Says (Status.Damaged place) (damaged_line place) result
         (K.view sink.old) (K.view sink.new) }

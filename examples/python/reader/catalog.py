@@ -167,7 +167,7 @@ def read_catalog(pages: dict[Key, bytes]) -> Catalog:
     catalog = Catalog()
     for listed in LISTED:
         for page in listed.pages:
-            with reading(f"damaged catalog {page}"):
+            with reading(f"not a store catalog {page}"):
                 data = required(pages.get(Key(0, Space.SYSTEM, page)))
                 read_listed(catalog, listed, page, data)
     return catalog

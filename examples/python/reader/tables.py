@@ -93,11 +93,11 @@ def read_bodies(pages: Pages, catalog: Catalog) -> Bodies:
     bodies = {}
     for key in sorted(key for key in pages if key.space == Space.HOME):
         for slot in range(ENTRIES):
-            with reading(f"damaged page {key.segment} home {key.number}"):
+            with reading(f"not a store page {key.segment} home {key.number}"):
                 data = read_body(pages, key, slot)
             if data is not None:
                 tid = Tid(key.number, slot)
-                with reading(f"damaged tuple {key.segment} {tid}"):
+                with reading(f"not a store tuple {key.segment} {tid}"):
                     bodies[key.segment, tid] = read_parts(catalog, key.segment, data)
     return bodies
 
@@ -130,7 +130,7 @@ def walk(bodies: Bodies, link: Link, first: Tid | None) -> list[Tid]:
 
 def read_chains(bodies: Bodies, link: Link) -> dict[tuple[int, Tid | None], list[Tid]]:
     chains = {}
-    with reading(f"damaged link {link.number}"):
+    with reading(f"not a store link {link.number}"):
         for parent, (first, last) in ends_of(bodies, link).items():
             chain = walk(bodies, link, first)
             require(last == (chain[-1] if chain else None))

@@ -1,7 +1,7 @@
 use Rattle.std.proofs.Common.{refl}
 use Rattle.rss_top.specs.Tellings.{told_by}
 use Rattle.rss_top.specs.TellingLaws.{told_sound}
-use Rattle.rss_top.proofs.Openings.{script_ran, failed_opening, lacked_opening, layout_refused, store_refused}
+use Rattle.rss_top.proofs.Openings.{script_ran, failed_opening, lacked_opening, look_refused, store_refused}
 use Rattle.rss_top.proofs.script.run_script.Goals as goal
 
 pub returns-in-Ok : goal.returns-in-Ok
@@ -20,7 +20,7 @@ pub returns-in-NoMemory : goal.returns-in-NoMemory
 returns-in-NoMemory g c = lacked_opening (told_by g.T.Teller.telling) c.in-Err.ensures.refused _ _ _ refl
 
 pub returns-in-NotAStore : goal.returns-in-NotAStore
-returns-in-NotAStore g c = layout_refused (told_by g.T.Teller.telling) c.in-Err.ensures.refused _ _ _ c.in-NotAStore.is c.refuse_layout.ensures
+returns-in-NotAStore g c = look_refused (told_by g.T.Teller.telling) c.in-Err.ensures.refused _ _ _ c.in-NotAStore.is c.refuse_layout.ensures
 
 pub returns-in-Damaged : goal.returns-in-Damaged
 returns-in-Damaged g c = store_refused (told_by g.T.Teller.telling) c.in-Err.ensures.refused _ _ _ c.in-Damaged.is c.refuse_damaged.ensures

@@ -5,7 +5,7 @@ use Rattle.rss_base.specs.Streams.{Stream}
 use Rattle.rss_model.specs.Machine.{StoreSize}
 use Rattle.rss_stored.specs.Store.{OpensTo}
 use Rattle.rss_model.specs.Tables.{Tables}
-use Rattle.rss_stored.proofs.Stores.{store_unbroken}
+use Rattle.rss_check.proofs.Refused.{found_none}
 use Rattle.rss_top.specs.Run.{World}
 use Rattle.rss_top.specs.Trial.{TellsTrial}
 use Rattle.rss_top.specs.Programs.{IsRunEnd, with_sink}
@@ -25,7 +25,7 @@ module _ (old new : World) (sink_old sink_new source_old source_new : Stream) (r
   completes_trial : (ran : Status) → IsRunEnd (with_sink old sink_old) (with_sink new sink_new) source_old source_new ran → TellsTrial ran replies status old.sink new.sink → (status ≡ Ok) ⊎ (status ≡ NoMemory)
   completes_trial Ok cause tells = by_said (λ s. (s ≡ Ok) ⊎ (s ≡ NoMemory)) tells.says
       (λ _. inl refl) (λ front rises. absurd (sink rises)) (λ silent. inr refl)
-  completes_trial (NotAStore place) cause tells = absurd (store_unbroken opens place (cause.0 pages told))
+  completes_trial (NotAStore place) cause tells = absurd (found_none (cause.0 pages told) opens.stored opens.store)
   completes_trial (Damaged place) cause tells = absurd (⊎_elim
       (λ turned. turned.why size tables opens)
       (λ found. found.none size tables opens)
